@@ -1,0 +1,6 @@
+pub mod Samples
+pub mod Vector
+pub mod Plane
+pub mod Filter
+pub mod Prediction
+pub mod Refusals
