@@ -1,9 +1,10 @@
-use borrow.Author.Needs.{needs, sfits-of}
+-- `stored_luma_mv` meets its contract: each component by what `double` ensures. Assumes nothing.
+use borrow.Author.Needs.{needs}
 use mathlib.Core.Path.{_≡_, _∙_, ap}
-use lib.IntN.{ℤ}
 use mir.Syntax.{w16}
 use mir.Val.{SFits}
 use mir.Facts.{toZ-ofZ}
+use Rattle.laws.specs.Signed.{back}
 use Rattle.prediction.specs.Vector.{doubled}
 use Rattle.prediction.proofs.motion_comp.stored_luma_mv.Statement.{statement}
 use Rattle.prediction.proofs.motion_comp.stored_luma_mv.Tie as tie
@@ -16,11 +17,13 @@ double-requires-2 c κs = search needs
 
 returns : tie.Need-returns
 returns c =
+    let s = c .before .before .before .before in
     let a = c .before .before .before .struct-told .given in
-    let f : SFits w16 (c .before .before .before .before .args .mv .row) = search needs in
-    let g : SFits w16 (c .before .before .before .before .args .mv .col) = search needs in
-    let p = toZ-ofZ (sfits-of (c .before .before .double .ok)) ∙ c .before .before .double .ensures ∙ ap doubled (toZ-ofZ f) in
-    let q = toZ-ofZ (sfits-of (c .double2 .ok)) ∙ c .double2 .ensures ∙ ap doubled (toZ-ofZ g) in
+    let f : SFits w16 (s .args .mv .row) = search needs in
+    let g : SFits w16 (s .args .mv .col) = search needs in
+    let d = c .before .before .double in
+    let p = back w16 (d .result) (d .ok) ∙ d .ensures ∙ ap doubled (toZ-ofZ f) in
+    let q = back w16 (c .double2 .result) (c .double2 .ok) ∙ c .double2 .ensures ∙ ap doubled (toZ-ofZ g) in
     rw (p, q)
 
 pub stored-luma-mv-spec : {M : Type 1} → statement M
