@@ -1,0 +1,1 @@
+// The weight curves of the denoiser, and how far it can move a sample.
