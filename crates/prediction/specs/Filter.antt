@@ -5,6 +5,8 @@ use lib.ListN.{getD}
 use lib.IntN.{ℤ, pos, negℤ, _+ℤ_, _*ℤ_}
 use lib.Signed.{shrZ}
 use Rattle.prediction.specs.Samples.{clamped255}
+use Rattle.prediction.specs.declared.motion_comp.FilterSet.{FilterSet}
+use Rattle.prediction.specs.declared.motion_comp.FilterSet.the-variants.{Sixtap, Bilinear}
 
 -- the sum of the first n products of a tap and a sample
 unfoldable pub products : (ℕ → ℤ) → (ℕ → ℕ) → ℕ → ℤ
@@ -41,3 +43,8 @@ sixtapRows =
 
 unfoldable pub sixtap : FilterRows
 sixtap selector k = getD (getD sixtapRows selector []) k (pos 0)
+
+-- the filter set of a version: six-tap for 0, bilinear for 1 to 255
+abbrev pub filterSetOf : ℕ → FilterSet
+filterSetOf zero = Sixtap
+filterSetOf (suc version) = Bilinear

@@ -4,3 +4,4 @@ pub mod Plane
 pub mod Filter
 pub mod Prediction
 pub mod Refusals
+pub mod Internal

@@ -37,6 +37,9 @@ badSelector s = ltb 7 s
 abbrev pub fetchLines : Plane → ℕ → ℕ → List Line
 fetchLines p x y = line 8 (badSize p) [] ∷ line 9 (shortPlane p) [] ∷ line 10 (badOrigin x y) [] ∷ []
 
+abbrev pub selectorLines : ℕ → List Line
+selectorLines s = line 13 (badSelector s) [] ∷ []
+
 abbrev pub filterLines : ℕ → ℕ → List Line
 filterLines mx my = line 13 (badSelector mx || badSelector my) [] ∷ []
 

@@ -1,0 +1,4 @@
+pub mod Taps
+pub mod Sizes
+pub mod Laws
+pub mod Passes
