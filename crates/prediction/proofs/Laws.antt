@@ -56,22 +56,22 @@ square-same n x y u v f g h = tabulate-same (n * n) _ _ h
 -- column or row a + k of a halo, seen from the macroblock
 two-back : (a k : ℕ) → above (pos 0 +ℤ pos a +ℤ pos k -ℤ pos 2 +ℤ pos 2) ≡ a + k
 two-back a k =
-    omega
-    ( arith
-    , diff (pos 0 +ℤ pos a +ℤ pos k) (pos 2) .up
-    , diff (pos 0 +ℤ pos a +ℤ pos k) (pos 2) .dn
-    , sum (pos 0 +ℤ pos a +ℤ pos k -ℤ pos 2) (pos 2) .up
+    omega (
+      arith,
+      diff (pos 0 +ℤ pos a +ℤ pos k) (pos 2) .up,
+      diff (pos 0 +ℤ pos a +ℤ pos k) (pos 2) .dn,
+      sum (pos 0 +ℤ pos a +ℤ pos k -ℤ pos 2) (pos 2) .up,
     )
 
 from-two : (a k : ℕ) → pos 0 -ℤ pos 2 +ℤ pos (a + k) ≡ pos 0 +ℤ pos a +ℤ pos k -ℤ pos 2
 from-two a k =
     same _ _
-    (omega
-    ( arith
-    , sum (pos 0 -ℤ pos 2) (pos (a + k)) .up
-    , sum (pos 0 -ℤ pos 2) (pos (a + k)) .dn
-    , diff (pos 0 +ℤ pos a +ℤ pos k) (pos 2) .up
-    , diff (pos 0 +ℤ pos a +ℤ pos k) (pos 2) .dn
+    (omega (
+      arith,
+      sum (pos 0 -ℤ pos 2) (pos (a + k)) .up,
+      sum (pos 0 -ℤ pos 2) (pos (a + k)) .dn,
+      diff (pos 0 +ℤ pos a +ℤ pos k) (pos 2) .up,
+      diff (pos 0 +ℤ pos a +ℤ pos k) (pos 2) .dn,
     ))
 
 -- what the filter reads of a halo
@@ -83,7 +83,7 @@ halo-reads halo a b i j = rw (two-back a i, two-back b j)
 -- a fetched halo holds the samples that the filter reads
 halo-holds : (at : Samples) (a b i j : ℕ) → a < 16 → b < 16 → i < 6 → j < 6
     → haloSamples (haloOf at) (pos 0 +ℤ pos a +ℤ pos i -ℤ pos 2) (pos 0 +ℤ pos b +ℤ pos j -ℤ pos 2)
-      ≡ at (pos 0 +ℤ pos a +ℤ pos i -ℤ pos 2) (pos 0 +ℤ pos b +ℤ pos j -ℤ pos 2)
+    ≡ at (pos 0 +ℤ pos a +ℤ pos i -ℤ pos 2) (pos 0 +ℤ pos b +ℤ pos j -ℤ pos 2)
 halo-holds at a b i j ha hb hi hj =
     let place : ℕ = (b + j) * 21 + (a + i) in
     let column : place % 21 ≡ a + i = omega arith in

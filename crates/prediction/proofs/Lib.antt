@@ -2,3 +2,4 @@ pub mod Taps
 pub mod Sizes
 pub mod Laws
 pub mod Passes
+pub mod Squares

@@ -5,42 +5,33 @@ use Prim.Native.Nat.{ℕ, suc, _+_, _-_, _*_, _/_, min}
 use native.Mathlib.Omega.{arith}
 use lib.ListN.{getD}
 use lib.IntN.{ℤ, pos, negℤ, _+ℤ_, _*ℤ_}
-use Rattle.laws.specs.Signed.{above, below, sum, times, neg, floor, one-zero}
+use Rattle.laws.specs.Signed.{times, neg, floor, Less, less-pos, less-sum, above-less}
 use Rattle.prediction.specs.Filter.{products, filtered, sixtapRows, sixtap}
 use Rattle.prediction.specs.declared.motion_comp.Taps.{Taps}
 use Rattle.prediction.specs.Internal.{Row, sampleOf, filteredList}
 
--- z is p less n
-record Less (z : ℤ) (p n : ℕ) : Type 0 where
-  eq : above z + n ≡ p + below z
+-- a product of a tap that is added, and of one that is taken away
+tap-pos : (z : ℤ) (t x : ℕ) → z ≡ pos t → Less (z *ℤ pos x) (t * x) 0
+tap-pos z t x e = rw e (record { eq = omega (arith, times (pos t) x .up, times (pos t) x .dn) })
 
-less-sum : {a b : ℤ} {p n q m : ℕ} → Less a p n → Less b q m → Less (a +ℤ b) (p + q) (n + m)
-less-sum {a} {b} h k = record { eq = omega (arith, h .eq, k .eq, sum a b .up, sum a b .dn) }
-
-less-pos : (z : ℤ) (t x : ℕ) → z ≡ pos t → Less (z *ℤ pos x) (t * x) 0
-less-pos z t x e = rw e (record { eq = omega (arith, times (pos t) x .up, times (pos t) x .dn) })
-
-less-neg : (z : ℤ) (t x : ℕ) → z ≡ negℤ (pos t) → Less (z *ℤ pos x) 0 (t * x)
-less-neg z t x e =
+tap-neg : (z : ℤ) (t x : ℕ) → z ≡ negℤ (pos t) → Less (z *ℤ pos x) 0 (t * x)
+tap-neg z t x e =
     let up = rw (neg (pos t) .up) at (times (negℤ (pos t)) x .up) in
     let dn = rw (neg (pos t) .dn) at (times (negℤ (pos t)) x .dn) in
     rw e (record { eq = omega (arith, up, dn) })
-
-above-less : {z : ℤ} {p n : ℕ} → Less z p n → above z ≡ p - n
-above-less {z} h = omega (arith, h .eq, one-zero z)
 
 -- one product more, of a tap that is added and of one that is taken away
 module _ (tap : ℕ → ℤ) (sample : ℕ → ℕ) where
   next-pos : (n t : ℕ) {p m : ℕ} → tap n ≡ pos t → Less (products tap sample n) p m → Less (products tap sample (suc n)) (p + t * sample n) m
   unfolding products
   next-pos n t {p} {m} e h =
-      let g = less-sum h (less-pos (tap n) t (sample n) e) in
+      let g = less-sum h (tap-pos (tap n) t (sample n) e) in
       record { eq = omega (arith, g .eq) }
 
   next-neg : (n t : ℕ) {p m : ℕ} → tap n ≡ negℤ (pos t) → Less (products tap sample n) p m → Less (products tap sample (suc n)) p (m + t * sample n)
   unfolding products
   next-neg n t {p} {m} e h =
-      let g = less-sum h (less-neg (tap n) t (sample n) e) in
+      let g = less-sum h (tap-neg (tap n) t (sample n) e) in
       record { eq = omega (arith, g .eq) }
 
   none : Less (products tap sample 0) 0 0
@@ -65,8 +56,7 @@ module _ (s : ℕ) (t : Taps) (r : Row s t) (sample : ℕ → ℕ) where
   unfolding filtered
   by-sizes =
       let x = products (sixtap s) sample 6 in
-      let half : Less (pos 64) 64 0 = record { eq = refl } in
-      let g = less-sum summed half in
+      let g = less-sum summed (less-pos 64) in
       omega (arith, floor (x +ℤ pos 64) 127 .up, above-less g)
 
 pub sample-law : (s : ℕ) (t : Taps) (w : List ℕ) → Row s t → sampleOf t w ≡ filteredList s w

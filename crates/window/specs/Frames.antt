@@ -21,14 +21,14 @@ numberAt numbers g k = getD numbers (g * numbersPerFrame + k) 0
 -- width, height, start of Y, of U, of V, luma stride, chroma stride
 abbrev pub frameAt : List ℕ → ℕ → Frame
 frameAt numbers g =
-    record
-    { width = numberAt numbers g 0
-    ; height = numberAt numbers g 1
-    ; y = numberAt numbers g 2
-    ; u = numberAt numbers g 3
-    ; v = numberAt numbers g 4
-    ; «luma_stride» = numberAt numbers g 5
-    ; «chroma_stride» = numberAt numbers g 6
+    record {
+      width = numberAt numbers g 0;
+      height = numberAt numbers g 1;
+      y = numberAt numbers g 2;
+      u = numberAt numbers g 3;
+      v = numberAt numbers g 4;
+      «luma_stride» = numberAt numbers g 5;
+      «chroma_stride» = numberAt numbers g 6;
     }
 
 -- where a plane starts, and its stride

@@ -18,16 +18,17 @@ asked s k = subst (λ (z : ℤ). natAbs z ≤ 128) (sym (toZ-ofZ (tap-fits s k))
 
 made : (s : ℕ) (t : Taps) → t .a ≡ natAbs (sixtap s 0) → t .b ≡ natAbs (sixtap s 1) → t .c ≡ natAbs (sixtap s 2) → t .d ≡ natAbs (sixtap s 3) → t .e ≡ natAbs (sixtap s 4) → t .f ≡ natAbs (sixtap s 5) → Row s t × Small t
 made s t a b d e f g =
-    let h = signs-right s in
-    ( record {
+    let h = signs-right s in (
+      record {
         a = by-size _ _ a (omega arith);
         b = by-size-neg _ _ b (omega arith);
         c = by-size _ _ d (omega arith);
         d = by-size _ _ e (omega arith);
         e = by-size-neg _ _ f (omega arith);
-        f = by-size _ _ g (omega arith)
+        f = by-size _ _ g (omega arith);
       },
-      record { more = omega (arith, added-small s); less = omega (arith, taken-small s) })
+      record { more = omega (arith, added-small s); less = omega (arith, taken-small s) },
+    )
 
 mul-t : tie.Need-mul-t
 mul-t c = search needs

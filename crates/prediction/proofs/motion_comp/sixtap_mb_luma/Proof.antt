@@ -27,8 +27,8 @@ returns-3 : tie.Need-returns-3
 returns-3 c =
     let a = c .before .before .before .before .args in
     let e =
-        c .vertical .ensures ∙ ap (λ (rows : List ℕ). tabulate 256 (downOf (a .my) rows)) (c .before .horizontal .ensures)
-        ∙ passes (a .mx) (a .my) (a .halo)
+    c .vertical .ensures ∙ ap (λ (rows : List ℕ). tabulate 256 (downOf (a .my) rows)) (c .before .horizontal .ensures)
+    ∙ passes (a .mx) (a .my) (a .halo)
     in
     simp (le-ltb _ _ (c .before .before .before .if1 .left), le-ltb _ _ (c .before .before .if2 .left))
     (record { outcome = ap (λ (b : List ℕ). accepted b) e; beside = e })
