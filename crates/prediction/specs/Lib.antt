@@ -4,4 +4,3 @@ pub mod Plane
 pub mod Filter
 pub mod Prediction
 pub mod Refusals
-pub mod Internal

@@ -1,0 +1,24 @@
+-- Refusals 8, 9 and 10 of document 01 in its order, and the number of each case of an answer. Assumes nothing.
+use mathlib.Core.Path.{_≡_}
+use mathlib.Core.List.{List, [], _∷_}
+use Prim.Native.Nat.{ℕ}
+use Rattle.laws.specs.Outcome.{Outcome, refused, accepted, Line, line}
+use Rattle.prediction.specs.Plane.{Plane}
+use Rattle.prediction.specs.Refusals.{badSize, shortPlane, badOrigin, blockOf}
+use Rattle.fetch.specs.declared.FetchAnswer.{FetchAnswer}
+use Rattle.fetch.specs.declared.FetchAnswer.the-variants.{Fetched, BadSize, ShortPlane, BadOrigin}
+
+abbrev pub fetchLines : Plane → ℕ → ℕ → List Line
+fetchLines p x y = line 8 (badSize p) [] ∷ line 9 (shortPlane p) [] ∷ line 10 (badOrigin x y) [] ∷ []
+
+-- the number and the values of each case of an answer; an accepted one is the block beside it
+abbrev pub fetchOutcome : FetchAnswer → List ℕ → Outcome (List ℕ)
+fetchOutcome Fetched block = accepted block
+fetchOutcome BadSize block = refused 8 []
+fetchOutcome ShortPlane block = refused 9 []
+fetchOutcome BadOrigin block = refused 10 []
+
+-- what a fetch promises: the outcome, and the block of n samples
+pub record FetchIs (expected : Outcome (List ℕ)) (n : ℕ) (answer : FetchAnswer) (block : List ℕ) : Type 0 where
+  pub outcome : fetchOutcome answer block ≡ expected
+  pub beside : block ≡ blockOf n expected

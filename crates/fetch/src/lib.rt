@@ -1,0 +1,298 @@
+// The luma fetches: a macroblock, or its halo, from a reference plane whose edge samples repeat.
+use prediction::motion_comp::whole_offset;
+use prediction::motion_vector::Mv;
+ghost use mathlib.Core.Path.{_≡_};
+ghost use mathlib.Core.Bool.{true, _||_};
+ghost use Prim.Native.Nat.{_+_, _-_, _*_, _≤_, _<_, min};
+ghost use lib.Dec.{ltb};
+ghost use lib.ListN.{length};
+ghost use Rattle.laws.specs.Signed.{above, below};
+ghost use Rattle.laws.specs.Outcome.{firstOf};
+ghost use Rattle.laws.specs.Tabulate.{Filling, tabulate};
+ghost use Rattle.prediction.specs.Vector.{wholeOf};
+ghost use Rattle.prediction.specs.Plane.{lumaPlane, sampleAt};
+ghost use Rattle.prediction.specs.Prediction.{macroblockOf, haloOf, offsetBy};
+ghost use Rattle.prediction.specs.Refusals.{badSide, badOrigin};
+ghost use Rattle.fetch.specs.Refusals.{fetchLines, FetchIs};
+ghost use Rattle.fetch.specs.Internal.{entry, Inside, Decides};
+
+// A fetched block, or why a fetch is refused.
+pub enum FetchAnswer {
+    Fetched,
+    BadSize,
+    ShortPlane,
+    BadOrigin,
+}
+
+// A macroblock beside the answer: all zeros with a refusal.
+pub struct FetchedMb {
+    pub answer: FetchAnswer,
+    pub block: [u8; 256],
+}
+
+// A halo beside the answer: all zeros with a refusal.
+pub struct FetchedHalo {
+    pub answer: FetchAnswer,
+    pub halo: [u8; 441],
+}
+
+// A width or height that is 0 or above 16383.
+fn bad_side(n: usize) -> bool
+    ensures { λ r. ⌜ r ≡ badSide n ⌝ }
+{
+    if n == 0 {
+        return true;
+    }
+    16383 < n
+}
+
+// Refusal 8: the width or the height is 0 or above 16383.
+pub fn bad_size(width: usize, height: usize) -> bool
+    ensures { λ r. ⌜ r ≡ (badSide width || badSide height) ⌝ }
+{
+    if bad_side(width) {
+        return true;
+    }
+    bad_side(height)
+}
+
+// Refusal 9: len is below (height - 1) times stride + width, at any stride.
+pub fn short_plane(len: usize, stride: usize, width: usize, height: usize) -> bool
+    ensures { λ r. ⌜ r ≡ ltb len ((height - 1) * stride + width) ⌝ }
+{
+    if len < width {
+        return true;
+    }
+    if height <= 1 {
+        return false;
+    }
+    (len - width) / (height - 1) < stride
+}
+
+// Refusal 10: an origin exceeds 16368 in either direction.
+fn bad_origin(x: usize, y: usize) -> bool
+    ensures { λ r. ⌜ r ≡ badOrigin x y ⌝ }
+{
+    if 16368 < x {
+        return true;
+    }
+    16368 < y
+}
+
+// The first refusal of a fetch that applies.
+fn fetch_answer(
+    plane: &[u8],
+    stride: usize,
+    width: usize,
+    height: usize,
+    x: usize,
+    y: usize,
+) -> FetchAnswer
+    ensures { λ r. ⌜ Decides (fetchLines (lumaPlane (now (plane .entry)) stride width height) x y) r ⌝ }
+{
+    if bad_size(width, height) {
+        return FetchAnswer::BadSize;
+    }
+    if short_plane(plane.len(), stride, width, height) {
+        return FetchAnswer::ShortPlane;
+    }
+    if bad_origin(x, y) {
+        return FetchAnswer::BadOrigin;
+    }
+    FetchAnswer::Fetched
+}
+
+// The coordinate x moved by the whole offset of a component, plus 4096.
+fn moved(x: usize, v: i16) -> usize
+    requires { ⌜ x ≤ 16368 ⌝ }
+    ensures { λ r. ⌜ (r ≡ x + (4096 + above (wholeOf v) - below (wholeOf v))) × (r < 32768) ⌝ }
+{
+    x + ((whole_offset(v) + 4096) as usize)
+}
+
+// x - bias, but at least 0 and at most n - 1.
+fn cut(x: usize, bias: usize, n: usize) -> usize
+    requires { ⌜ 0 < n ⌝ }
+    ensures { λ r. ⌜ r ≡ min (x - bias) (n - 1) ⌝ }
+{
+    if x < bias {
+        return 0;
+    }
+    if n <= x - bias {
+        return n - 1;
+    }
+    x - bias
+}
+
+// Whether the n by n square from column x - bias and row y - bias on lies in the plane.
+fn lies_inside(n: usize, bias: usize, width: usize, height: usize, x: usize, y: usize) -> bool
+    requires { ⌜ (n ≤ 21) × (x < 32768) × (y < 32768) ⌝ }
+    ensures { λ r. ⌜ (r ≡ true → Inside n bias width height x y) ⌝ }
+{
+    if x < bias {
+        return false;
+    }
+    if y < bias {
+        return false;
+    }
+    if width < x - bias + n {
+        return false;
+    }
+    y - bias + n <= height
+}
+
+// Row r of a square: edge samples repeat.
+fn edge_row(
+    out: &mut [u8],
+    n: usize,
+    r: usize,
+    bias: usize,
+    plane: &[u8],
+    stride: usize,
+    width: usize,
+    height: usize,
+    x: usize,
+    y: usize,
+)
+    requires { ⌜ (r < n) × (n ≤ 21) × (0 < width) × (0 < height) × (x < 32768) × (y < 32768) ⌝ }
+    requires { ⌜ (height - 1) * stride + width ≤ length (now plane) ⌝ }
+    requires { ⌜ Filling (entry n bias (lumaPlane (now plane) stride width height) x y) (n * n) (now out) (r * n) ⌝ }
+    ensures { λ _. ⌜ Filling (entry n bias (lumaPlane (now (plane .entry)) stride width height) x y) (n * n) (now (out .exit)) (r * n + n) ⌝ }
+{
+    let from = cut(y + r, bias, height) * stride;
+    let at = r * n;
+    for k in 0..n {
+        out[at + k] = plane[from + cut(x + k, bias, width)];
+    }
+}
+
+// Row r of a square that lies in the plane.
+fn inside_row(
+    out: &mut [u8],
+    n: usize,
+    r: usize,
+    bias: usize,
+    plane: &[u8],
+    stride: usize,
+    width: usize,
+    height: usize,
+    x: usize,
+    y: usize,
+)
+    requires { ⌜ (r < n) × (n ≤ 21) × (x < 32768) × (y < 32768) × Inside n bias width height x y ⌝ }
+    requires { ⌜ (height - 1) * stride + width ≤ length (now plane) ⌝ }
+    requires { ⌜ Filling (entry n bias (lumaPlane (now plane) stride width height) x y) (n * n) (now out) (r * n) ⌝ }
+    ensures { λ _. ⌜ Filling (entry n bias (lumaPlane (now (plane .entry)) stride width height) x y) (n * n) (now (out .exit)) (r * n + n) ⌝ }
+{
+    let from = (y - bias + r) * stride + (x - bias);
+    let at = r * n;
+    for k in 0..n {
+        out[at + k] = plane[from + k];
+    }
+}
+
+// The n by n square from column x - bias and row y - bias on, row by row.
+fn square(
+    out: &mut [u8],
+    n: usize,
+    bias: usize,
+    plane: &[u8],
+    stride: usize,
+    width: usize,
+    height: usize,
+    x: usize,
+    y: usize,
+)
+    requires { ⌜ (n ≤ 21) × (0 < width) × (0 < height) × (x < 32768) × (y < 32768) × (length (now out) ≡ n * n) ⌝ }
+    requires { ⌜ (height - 1) * stride + width ≤ length (now plane) ⌝ }
+    ensures { λ _. ⌜ now (out .exit) ≡ tabulate (n * n) (entry n bias (lumaPlane (now (plane .entry)) stride width height) x y) ⌝ }
+{
+    let inside = lies_inside(n, bias, width, height, x, y);
+    for r in 0..n {
+        if inside {
+            inside_row(out, n, r, bias, plane, stride, width, height, x, y);
+        } else {
+            edge_row(out, n, r, bias, plane, stride, width, height, x, y);
+        }
+    }
+}
+
+// The macroblock at a pixel origin, moved by the whole offset of a vector in eighths.
+pub fn fetch_luma_mb_whole_pixel(
+    plane: &[u8],
+    stride: usize,
+    width: usize,
+    height: usize,
+    x: usize,
+    y: usize,
+    mv: Mv,
+) -> FetchedMb
+    ensures { λ r. ⌜ FetchIs (firstOf (fetchLines (lumaPlane (now (plane .entry)) stride width height) x y) (macroblockOf (offsetBy x y mv (sampleAt (lumaPlane (now (plane .entry)) stride width height))))) 256 (r .answer) (r .block) ⌝ }
+{
+    let answer = fetch_answer(plane, stride, width, height, x, y);
+    if let FetchAnswer::Fetched = answer {
+        let column = moved(x, mv.col);
+        let row = moved(y, mv.row);
+        let mut block = [0u8; 256];
+        square(
+            &mut block,
+            16,
+            4096,
+            plane,
+            stride,
+            width,
+            height,
+            column,
+            row,
+        );
+        FetchedMb {
+            answer: answer,
+            block: block,
+        }
+    } else {
+        FetchedMb {
+            answer: answer,
+            block: [0u8; 256],
+        }
+    }
+}
+
+// The halo of that macroblock: it starts two samples left and above.
+pub fn fetch_luma_mb_halo(
+    plane: &[u8],
+    stride: usize,
+    width: usize,
+    height: usize,
+    x: usize,
+    y: usize,
+    mv: Mv,
+) -> FetchedHalo
+    ensures { λ r. ⌜ FetchIs (firstOf (fetchLines (lumaPlane (now (plane .entry)) stride width height) x y) (haloOf (offsetBy x y mv (sampleAt (lumaPlane (now (plane .entry)) stride width height))))) 441 (r .answer) (r .halo) ⌝ }
+{
+    let answer = fetch_answer(plane, stride, width, height, x, y);
+    if let FetchAnswer::Fetched = answer {
+        let column = moved(x, mv.col);
+        let row = moved(y, mv.row);
+        let mut halo = [0u8; 441];
+        square(
+            &mut halo,
+            21,
+            4098,
+            plane,
+            stride,
+            width,
+            height,
+            column,
+            row,
+        );
+        FetchedHalo {
+            answer: answer,
+            halo: halo,
+        }
+    } else {
+        FetchedHalo {
+            answer: answer,
+            halo: [0u8; 441],
+        }
+    }
+}

@@ -1,0 +1,4 @@
+pub mod Table
+pub mod Sizes
+pub mod Laws
+pub mod Passes
