@@ -1,0 +1,70 @@
+//! Finds the originals and writes, into OUT_DIR only, what the crate root includes:
+//! a `mod` line for each of the six files, and a derived copy of motion_search.rs that counts.
+//! VP8_SOURCES names their folder; a relative one, as the default, is seen from the repository's root.
+
+use std::path::{Path, PathBuf};
+use std::{env, fs};
+
+const DEFAULT: &str = "../shared/docs/src/src";
+const NAMES: [&str; 6] =
+    ["motion_vector", "inverse_transform", "intra_predict", "motion_comp", "motion_search", "arnr"];
+
+fn main() {
+    println!("cargo::rustc-check-cfg=cfg(sources_absent)");
+    println!("cargo::rerun-if-env-changed=VP8_SOURCES");
+    println!("cargo::rerun-if-changed=build.rs");
+    let out = PathBuf::from(env::var("OUT_DIR").unwrap());
+    let folder = folder();
+    let missing: Vec<&str> = NAMES.into_iter().filter(|name| !file(&folder, name).is_file()).collect();
+    for name in NAMES {
+        println!("cargo::rerun-if-changed={}", file(&folder, name).display());
+    }
+    println!("cargo::rustc-env=ORACLE_SOURCES={}", folder.display());
+    if missing.is_empty() {
+        fs::write(out.join("sources.rs"), mod_lines(&folder, &out)).unwrap();
+        fs::write(out.join("counted_motion_search.rs"), counted(&folder)).unwrap();
+    } else {
+        println!("cargo::rustc-cfg=sources_absent");
+        println!("cargo::warning=no originals: {} is without {}.rs", folder.display(), missing.join(".rs, "));
+    }
+}
+
+fn folder() -> PathBuf {
+    let root = PathBuf::from(env::var("CARGO_MANIFEST_DIR").unwrap()).join("..");
+    root.join(env::var("VP8_SOURCES").unwrap_or_else(|_| DEFAULT.to_string()))
+}
+
+fn file(folder: &Path, name: &str) -> PathBuf {
+    folder.join(format!("{name}.rs"))
+}
+
+// The files themselves are compiled where they lie, unchanged.
+fn mod_lines(folder: &Path, out: &Path) -> String {
+    let line = |path: PathBuf, name: &str| {
+        let path = fs::canonicalize(&path).unwrap_or(path);
+        format!("#[allow(dead_code, unused_imports, clippy::all)]\n#[path = {path:?}]\npub mod {name};\n")
+    };
+    let mut lines: String = NAMES.into_iter().map(|name| line(file(folder, name), name)).collect();
+    lines += &line(out.join("counted_motion_search.rs"), "counted_motion_search");
+    lines
+}
+
+// motion_search.rs with each SAD of the diamond and each round counted, and nothing else changed.
+fn counted(folder: &Path) -> String {
+    let text = fs::read_to_string(file(folder, "motion_search")).unwrap();
+    let text = replaced(&text, "= mb_luma_sad_at_whole_mv(", "= counted_whole_sad(", 2);
+    let round = "for _ in (0..max_iters).inspect(|_| crate::counts::note_round()) {";
+    let text = replaced(&text, "for _ in 0..max_iters {", round, 1);
+    text + "
+fn counted_whole_sad(reference: LumaRef<'_>, mb_col: usize, mb_row: usize, src_y: &[u8; 256], mv: Mv) -> u32 {
+    crate::counts::note_sad();
+    mb_luma_sad_at_whole_mv(reference, mb_col, mb_row, src_y, mv)
+}
+"
+}
+
+fn replaced(text: &str, old: &str, new: &str, times: usize) -> String {
+    let found = text.matches(old).count();
+    assert!(found == times, "motion_search.rs: '{old}' stands {found} times, expected {times}");
+    text.replace(old, new)
+}

@@ -1,0 +1,73 @@
+//! Compiles the Rust originals unchanged and writes their answers for the replay programs.
+//!
+//!     oracle answers prediction OUTDIR
+//!
+//! OUTDIR gets the folder data/ and the file stdout of the crate replay_prediction.
+//! Exit status: 0 written; 2 bad usage; 3 the originals are not there and nothing was written;
+//! 101 an answer of the originals is not document 01's, or they panicked.
+#![cfg_attr(feature = "simd", feature(portable_simd))]
+
+#[cfg(not(sources_absent))]
+include!(concat!(env!("OUT_DIR"), "/sources.rs"));
+
+#[cfg(not(sources_absent))]
+mod counts;
+#[cfg(not(sources_absent))]
+mod paper;
+#[cfg(not(sources_absent))]
+mod prediction;
+#[cfg(not(sources_absent))]
+mod random;
+#[cfg(not(sources_absent))]
+mod records;
+#[cfg(not(sources_absent))]
+mod refusals;
+
+// What the originals import under `crate::`.
+#[cfg(not(sources_absent))]
+#[path = "shims"]
+mod shims {
+    pub mod bool_decoder;
+    pub mod coded_header;
+    pub mod encoder;
+    pub mod macroblock;
+    pub mod reconstruct;
+}
+#[cfg(not(sources_absent))]
+use shims::{bool_decoder, coded_header, encoder, macroblock, reconstruct};
+
+use std::path::Path;
+use std::process::exit;
+
+fn main() {
+    let words: Vec<String> = std::env::args().skip(1).collect();
+    let words: Vec<&str> = words.iter().map(String::as_str).collect();
+    match words[..] {
+        ["answers", name, folder] => match answers(name, Path::new(folder)) {
+            Some(Ok(())) => {}
+            Some(Err(e)) => usage(&format!("{folder}: {e}")),
+            None => usage(&format!("no answers are named {name}")),
+        },
+        _ => usage("usage: oracle answers prediction OUTDIR"),
+    }
+}
+
+fn usage(said: &str) -> ! {
+    eprintln!("oracle: {said}");
+    exit(2)
+}
+
+#[cfg(not(sources_absent))]
+fn answers(name: &str, folder: &Path) -> Option<std::io::Result<()>> {
+    match name {
+        "prediction" => Some(prediction::write(folder)),
+        _ => None,
+    }
+}
+
+#[cfg(sources_absent)]
+fn answers(name: &str, _folder: &Path) -> Option<std::io::Result<()>> {
+    eprintln!("oracle: skipped: the answers for {name}. The Rust originals are not in {}", env!("ORACLE_SOURCES"));
+    eprintln!("oracle: set VP8_SOURCES to their folder and build again; the stored answers stay as they are");
+    exit(3)
+}
