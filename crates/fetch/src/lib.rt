@@ -7,13 +7,11 @@ ghost use Prim.Native.Nat.{_+_, _-_, _*_, _≤_, _<_, min};
 ghost use lib.Dec.{ltb};
 ghost use lib.ListN.{length};
 ghost use Rattle.laws.specs.Signed.{above, below};
-ghost use Rattle.laws.specs.Outcome.{firstOf};
 ghost use Rattle.laws.specs.Tabulate.{Filling, tabulate};
 ghost use Rattle.prediction.specs.Vector.{wholeOf};
-ghost use Rattle.prediction.specs.Plane.{lumaPlane, sampleAt};
-ghost use Rattle.prediction.specs.Prediction.{macroblockOf, haloOf, offsetBy};
+ghost use Rattle.prediction.specs.Plane.{lumaPlane};
 ghost use Rattle.prediction.specs.Refusals.{badSide, badOrigin};
-ghost use Rattle.fetch.specs.Refusals.{fetchLines, FetchIs};
+ghost use Rattle.fetch.specs.Refusals.{fetchLines, macroblockAt, haloAt, FetchIs};
 ghost use Rattle.fetch.specs.Internal.{entry, Inside, Decides};
 
 // A fetched block, or why a fetch is refused.
@@ -227,7 +225,7 @@ pub fn fetch_luma_mb_whole_pixel(
     y: usize,
     mv: Mv,
 ) -> FetchedMb
-    ensures { λ r. ⌜ FetchIs (firstOf (fetchLines (lumaPlane (now (plane .entry)) stride width height) x y) (macroblockOf (offsetBy x y mv (sampleAt (lumaPlane (now (plane .entry)) stride width height))))) 256 (r .answer) (r .block) ⌝ }
+    ensures { λ r. ⌜ FetchIs (macroblockAt (lumaPlane (now (plane .entry)) stride width height) x y mv) 256 (r .answer) (r .block) ⌝ }
 {
     let answer = fetch_answer(plane, stride, width, height, x, y);
     if let FetchAnswer::Fetched = answer {
@@ -267,7 +265,7 @@ pub fn fetch_luma_mb_halo(
     y: usize,
     mv: Mv,
 ) -> FetchedHalo
-    ensures { λ r. ⌜ FetchIs (firstOf (fetchLines (lumaPlane (now (plane .entry)) stride width height) x y) (haloOf (offsetBy x y mv (sampleAt (lumaPlane (now (plane .entry)) stride width height))))) 441 (r .answer) (r .halo) ⌝ }
+    ensures { λ r. ⌜ FetchIs (haloAt (lumaPlane (now (plane .entry)) stride width height) x y mv) 441 (r .answer) (r .halo) ⌝ }
 {
     let answer = fetch_answer(plane, stride, width, height, x, y);
     if let FetchAnswer::Fetched = answer {
