@@ -1,5 +1,5 @@
 -- The blend of one sample, over any list of other frames: total weight, sum, denoised sample and distance bound. Assumes nothing.
-use mathlib.Core.List.{List, [], _∷_}
+use mathlib.Core.List.{List}
 use Prim.Native.Nat.{ℕ, _+_, _*_, _/_}
 use Rattle.laws.specs.Sums.{sumOver}
 use Rattle.laws.specs.Largest.{largest, nearest}

@@ -1,7 +1,5 @@
 -- The three planes of a picture, packed one after the other. They are numbered: 0 is Y, 1 is U, 2 is V. Assumes nothing.
-use mathlib.Core.List.{List}
 use Prim.Native.Nat.{ℕ, zero, suc, _+_, _*_, _/_}
-use lib.ListN.{getD}
 
 -- half of a width or height, rounded up
 abbrev pub half : ℕ → ℕ

@@ -1,12 +1,12 @@
 -- Refusals 1 to 7 of document 01, in its order. Assumes nothing.
-use mathlib.Core.Bool.{Bool, true, false, not, _||_}
+use mathlib.Core.Bool.{Bool, not, _||_}
 use mathlib.Core.List.{List, [], _∷_}
 use Prim.Native.Nat.{ℕ}
 use lib.Dec.{ltb, leb, eqb}
 use lib.ListN.{length}
 use Rattle.laws.specs.Outcome.{Outcome, refused, accepted, Line, line, firstOf}
 use Rattle.laws.specs.First.{firstBelow}
-use Rattle.prediction.specs.Plane.{Plane, bytesNeeded}
+use Rattle.prediction.specs.Plane.{bytesNeeded}
 use Rattle.prediction.specs.Refusals.{badSide}
 use Rattle.window.specs.declared.Frame.{Frame}
 use Rattle.window.specs.declared.Size.{Size}
@@ -26,6 +26,10 @@ pub record Given : Type 0 where
   pub sums : ℕ
   pub weights : ℕ
 
+abbrev pub given : List ℕ → List ℕ → ℕ → ℕ → ℕ → ℕ → Given
+given bytes numbers centre output sums weights =
+    record { bytes = bytes; numbers = numbers; centre = centre; output = output; sums = sums; weights = weights }
+
 -- the frame count, frame g, and the centre frame
 abbrev pub countOf : Given → ℕ
 countOf c = frameCount (c .numbers)
@@ -40,7 +44,7 @@ centreOf c = frameOf c (c .centre)
 abbrev pub otherSized : Given → ℕ → Bool
 otherSized c g = not (eqb (frameOf c g .width) (centreOf c .width)) || not (eqb (frameOf c g .height) (centreOf c .height))
 
--- plane k of a frame does not fit the picture bytes
+-- plane k of frame g does not fit the picture bytes
 abbrev pub planeUnfit : Given → ℕ → ℕ → Bool
 planeUnfit c g k = ltb (length (c .bytes)) (bytesNeeded (planeOf (c .bytes) (frameOf c g) k))
 

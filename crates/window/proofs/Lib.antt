@@ -1,0 +1,3 @@
+mod Scan
+mod Lines
+pub mod Built

@@ -1,0 +1,15 @@
+-- `window::bad_side` meets its contract. Assumes nothing.
+use mathlib.Core.Path.{refl}
+use borrow.Author.Tests.{eq-eqb, ne-eqb}
+use Rattle.laws.specs.Outcome.{or-first, or-second}
+use Rattle.window.proofs.bad_side.Statement.{statement}
+use Rattle.window.proofs.bad_side.Tie as tie
+
+returns : tie.Need-returns
+returns c = or-first _ _ (eq-eqb _ 0 (c .if1 .taken))
+
+returns-2 : tie.Need-returns-2
+returns-2 c = or-second _ _ _ (ne-eqb _ 0 (c .if1 .left)) refl
+
+pub bad-side-spec : {M : Type 1} → statement M
+bad-side-spec = tie.close (tie.spec returns returns-2)
