@@ -1,0 +1,61 @@
+-- `any_sad` meets its contract. Assumes nothing.
+use mathlib.Core.Path.{sym, ap, _∙_}
+use borrow.Author.Needs.{needs}
+use mir.Syntax.{w16}
+use mir.Val.{SFits}
+use mir.Facts.{toZ-ofZ}
+use Rattle.prediction.specs.declared.motion_vector.Mv.{Mv}
+use Rattle.prediction.specs.Vector.{fractionOf}
+use Rattle.motion_search.specs.Sad.{sad16, costOf}
+use Rattle.motion_search.specs.Conditions.{predictedFrom}
+use Rattle.motion_search.proofs.sads.any_sad.Statement.{statement}
+use Rattle.motion_search.proofs.sads.any_sad.Tie as tie
+
+stored-luma-mv-requires : tie.Need-stored-luma-mv-requires
+stored-luma-mv-requires c κs = search needs
+
+fraction-requires : tie.Need-fraction-requires
+fraction-requires c κs = search needs
+
+fraction-requires-2 : tie.Need-fraction-requires-2
+fraction-requires-2 c κs = search needs
+
+whole-sad-requires : tie.Need-whole-sad-requires
+whole-sad-requires c κs =
+    let x = c .before .before .before .before in
+    let e = x .before .before in
+    let a = x .before .struct-told .given in
+    let b = c .before .before .struct-told2 .given in
+    let fc : SFits w16 (e .stored-luma-mv .result .col) = search needs in
+    let fr : SFits w16 (e .stored-luma-mv .result .row) = search needs in (
+      e .before .before .before .pre,
+      record {
+        row = ap (λ (v : Mv). fractionOf (v .row)) (sym (e .stored-luma-mv .ensures)) ∙ ap fractionOf (sym (toZ-ofZ fr)) ∙ sym (c .before .fraction2 .ensures) ∙ c .if2 .taken;
+        col = ap (λ (v : Mv). fractionOf (v .col)) (sym (e .stored-luma-mv .ensures)) ∙ ap fractionOf (sym (toZ-ofZ fc)) ∙ sym (x .fraction .ensures) ∙ c .before .before .before .if1 .taken;
+      },
+    )
+
+returns : tie.Need-returns
+returns c = search needs
+
+filtered-sad-requires : tie.Need-filtered-sad-requires
+filtered-sad-requires c κs = search needs
+
+returns-2 : tie.Need-returns-2
+unfolding costOf
+returns-2 c =
+    let e = c .before .before .before .before in
+    let s = e .before .before .before .args in
+    c .filtered-sad .ensures ∙ ap (λ (v : Mv). sad16 (s .src .now) (predictedFrom (s .plane .now) (s .s) v)) (e .stored-luma-mv .ensures)
+
+pub any-sad-spec : {M : Type 1} → statement M
+any-sad-spec =
+    tie.close
+    (tie.spec
+    stored-luma-mv-requires
+    fraction-requires
+    fraction-requires-2
+    whole-sad-requires
+    returns
+    filtered-sad-requires
+    returns-2)

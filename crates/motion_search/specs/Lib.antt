@@ -1,0 +1,4 @@
+pub mod Sad
+pub mod Search
+pub mod Refusals
+pub mod Conditions

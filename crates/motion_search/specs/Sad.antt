@@ -1,0 +1,19 @@
+-- The sum of absolute differences (SAD) of a macroblock. Assumes nothing.
+use mathlib.Core.List.{List}
+use Prim.Native.Nat.{ℕ, _*_}
+use lib.ListN.{getD}
+use Rattle.laws.specs.Sums.{sumBelow}
+use Rattle.prediction.specs.declared.motion_vector.Mv.{Mv}
+use Rattle.prediction.specs.Samples.{distance}
+use Rattle.prediction.specs.Vector.{storedMv}
+use Rattle.prediction.specs.Plane.{Plane, sampleAt}
+use Rattle.prediction.specs.Filter.{sixtap}
+use Rattle.prediction.specs.Prediction.{predictedMb}
+
+-- the SAD of two blocks of 16 by 16 samples
+unfoldable pub sad16 : List ℕ → List ℕ → ℕ
+sad16 src block = sumBelow (λ i. distance (getD src i 0) (getD block i 0)) 256
+
+-- the SAD of a source block and its prediction at a vector in quarter pixels, for the macroblock at a column and a row
+unfoldable pub costOf : Plane → ℕ → ℕ → List ℕ → Mv → ℕ
+costOf plane column row src v = sad16 src (predictedMb sixtap (sampleAt plane) (16 * column) (16 * row) (storedMv v))

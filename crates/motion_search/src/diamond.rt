@@ -1,0 +1,100 @@
+// The small diamond.
+use crate::motion_search::DiamondResult;
+use crate::motion_search::WHOLE_PIXEL_STEP;
+use crate::sads::whole_sad;
+use crate::site::Site;
+use crate::vectors::neighbour;
+use crate::vectors::same_mv;
+use crate::vectors::to_grid;
+use prediction::motion_vector::Mv;
+ghost use mathlib.Core.Path.{_≡_};
+ghost use Prim.Native.Nat.{_≤_, _<_};
+ghost use Rattle.laws.specs.Signed.{above, below};
+ghost use Rattle.motion_search.specs.Search.{tried, roundOf, diamond};
+ghost use Rattle.motion_search.specs.Conditions.{costAt, Ready, Whole, Good};
+
+// One neighbour of the best so far.
+fn try_at(
+    plane: &[u8],
+    s: Site,
+    src: &[u8],
+    best: DiamondResult,
+    drow: i16,
+    dcol: i16,
+) -> DiamondResult
+    requires { ⌜ Ready (now plane) s (now src) ⌝ }
+    requires { ⌜ Whole (best .mv) ⌝ }
+    requires { ⌜ best .sads < 4000000000 ⌝ }
+    requires { ⌜ (above drow ≤ 4) × (below drow ≤ 4) × (above dcol ≤ 4) × (below dcol ≤ 4) ⌝ }
+    ensures { λ r. ⌜ r ≡ tried (costAt (now (plane .entry)) s (now (src .entry))) drow dcol best ⌝ }
+{
+    let at = best.mv;
+    let mv = neighbour(at, drow, dcol);
+    if same_mv(mv, at) {
+        return best;
+    }
+    let sad = whole_sad(plane, s, src, mv);
+    if sad < best.sad {
+        return DiamondResult {
+            mv: mv,
+            sad: sad,
+            sads: best.sads + 1,
+            rounds: best.rounds,
+        };
+    }
+    DiamondResult {
+        mv: at,
+        sad: best.sad,
+        sads: best.sads + 1,
+        rounds: best.rounds,
+    }
+}
+
+// One round: up, down, left, right.
+fn round(plane: &[u8], s: Site, src: &[u8], best: DiamondResult) -> DiamondResult
+    requires { ⌜ Ready (now plane) s (now src) ⌝ }
+    requires { ⌜ Good (costAt (now plane) s (now src)) best ⌝ }
+    requires { ⌜ (best .sads < 3999999990) × (best .rounds < 4000000000) ⌝ }
+    ensures { λ r. ⌜ r ≡ roundOf (costAt (now (plane .entry)) s (now (src .entry))) best ⌝ }
+{
+    let up = try_at(plane, s, src, best, -WHOLE_PIXEL_STEP, 0);
+    let down = try_at(plane, s, src, up, WHOLE_PIXEL_STEP, 0);
+    let left = try_at(plane, s, src, down, 0, -WHOLE_PIXEL_STEP);
+    let right = try_at(plane, s, src, left, 0, WHOLE_PIXEL_STEP);
+    let mv = right.mv;
+    DiamondResult {
+        mv: mv,
+        sad: right.sad,
+        sads: right.sads,
+        rounds: right.rounds + 1,
+    }
+}
+
+// Rounds until one does not move, at most `limit`: a round that finds no smaller SAD has not moved.
+pub(crate) fn small_diamond(
+    plane: &[u8],
+    s: Site,
+    src: &[u8],
+    center: Mv,
+    limit: u32,
+) -> DiamondResult
+    requires { ⌜ Ready (now plane) s (now src) ⌝ }
+    ensures { λ r. ⌜ r ≡ diamond (costAt (now (plane .entry)) s (now (src .entry))) center limit ⌝ }
+{
+    let mv = to_grid(center);
+    let sad = whole_sad(plane, s, src, mv);
+    let mut best = DiamondResult {
+        mv: mv,
+        sad: sad,
+        sads: 1,
+        rounds: 0,
+    };
+    while best.rounds < limit {
+        let next = round(plane, s, src, best);
+        if best.sad <= next.sad {
+            return next;
+        }
+        best = next;
+    }
+    best
+}

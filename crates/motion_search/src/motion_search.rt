@@ -1,0 +1,288 @@
+// Luma motion search: SADs, the small diamond, half and quarter refinement.
+use crate::diamond::small_diamond;
+use crate::refinement::refine_at;
+use crate::refusals::bad_macroblock;
+use crate::refusals::off_grid;
+use crate::refusals::out_of_range;
+use crate::sads::any_sad;
+use crate::sads::block_sad;
+use crate::site::Site;
+use fetch::bad_size;
+use fetch::short_plane;
+use prediction::motion_vector::Mv;
+ghost use mathlib.Core.Path.{_≡_};
+ghost use Prim.Native.Nat.{_*_, _≤_, _<_};
+ghost use lib.ListN.{length};
+ghost use Rattle.laws.specs.Outcome.{firstOf};
+ghost use Rattle.prediction.specs.Plane.{lumaPlane};
+ghost use Rattle.motion_search.specs.Sad.{sad16, costOf};
+ghost use Rattle.motion_search.specs.Search.{diamond, refine};
+ghost use Rattle.motion_search.specs.Refusals.{placeLines, vectorLines, gridLines, sadOutcome, searchOutcome, diamondOutcome};
+ghost use Rattle.motion_search.specs.Conditions.{planeOf, costAt};
+
+// The range of a component, in quarter pixels.
+pub const MV_MIN: i16 = -1023;
+
+pub const MV_MAX: i16 = 1023;
+
+// Steps of a whole, a half and a quarter pixel.
+pub const WHOLE_PIXEL_STEP: i16 = 4;
+
+pub const HALF_PIXEL_STEP: i16 = 2;
+
+pub const QUARTER_PIXEL_STEP: i16 = 1;
+
+// A vector and its SAD.
+pub struct SearchResult {
+    pub mv: Mv,
+    pub sad: u32,
+}
+
+// A vector, its SAD, the SADs computed (the first included) and the rounds made (the last without a move included).
+pub struct DiamondResult {
+    pub mv: Mv,
+    pub sad: u32,
+    pub sads: u32,
+    pub rounds: u32,
+}
+
+pub enum SadAnswer {
+    Sad(u32),
+    BadSize,
+    ShortPlane,
+    BadMacroblock,
+    OutOfRange,
+    OffGrid,
+}
+
+pub enum SearchAnswer {
+    Found(SearchResult),
+    BadSize,
+    ShortPlane,
+    BadMacroblock,
+    OutOfRange,
+    OffGrid,
+}
+
+pub enum DiamondAnswer {
+    Found(DiamondResult),
+    BadSize,
+    ShortPlane,
+    BadMacroblock,
+}
+
+// The SAD of two blocks of 16 by 16 samples.
+pub fn block_sad_16x16(src: [u8; 256], pred: [u8; 256]) -> u32
+    ensures { λ r. ⌜ r ≡ sad16 src pred ⌝ }
+{
+    block_sad(&src, &pred)
+}
+
+// The SAD of a macroblock at a vector on the grid of n, whose components are multiples of n.
+fn sad_luma(plane: &[u8], s: Site, src: &[u8], mv: Mv, n: u32) -> SadAnswer
+    requires { ⌜ (length (now src) ≡ 256) × (0 < n) ⌝ }
+    ensures { λ r.
+        ⌜ sadOutcome r
+        ≡ firstOf (gridLines n (planeOf (now (plane .entry)) s) (s .column) (s .row) mv)
+        (costAt (now (plane .entry)) s (now (src .entry)) mv)
+        ⌝ }
+{
+    if bad_size(s.width, s.height) {
+        return SadAnswer::BadSize;
+    }
+    if short_plane(plane.len(), s.stride, s.width, s.height) {
+        return SadAnswer::ShortPlane;
+    }
+    if bad_macroblock(s.column, s.row) {
+        return SadAnswer::BadMacroblock;
+    }
+    if out_of_range(mv) {
+        return SadAnswer::OutOfRange;
+    }
+    if off_grid(n, mv) {
+        return SadAnswer::OffGrid;
+    }
+    SadAnswer::Sad(any_sad(plane, s, src, mv))
+}
+
+// The SAD of a macroblock at a whole vector.
+pub fn mb_luma_sad_at_whole_mv(
+    plane: &[u8],
+    stride: usize,
+    width: usize,
+    height: usize,
+    mb_col: usize,
+    mb_row: usize,
+    src_y: [u8; 256],
+    mv: Mv,
+) -> SadAnswer
+    ensures { λ r.
+        ⌜ sadOutcome r
+        ≡ firstOf (gridLines 4 (lumaPlane (now (plane .entry)) stride width height) «mb_col» «mb_row» mv)
+        (costOf (lumaPlane (now (plane .entry)) stride width height) «mb_col» «mb_row» «src_y» mv)
+        ⌝ }
+{
+    let s = Site {
+        stride: stride,
+        width: width,
+        height: height,
+        column: mb_col,
+        row: mb_row,
+    };
+    sad_luma(plane, s, &src_y, mv, WHOLE_PIXEL_STEP as u32)
+}
+
+// The SAD of a macroblock at any vector in range: every one is on the grid of 1.
+pub fn mb_luma_sad_at_mv(
+    plane: &[u8],
+    stride: usize,
+    width: usize,
+    height: usize,
+    mb_col: usize,
+    mb_row: usize,
+    src_y: [u8; 256],
+    mv: Mv,
+) -> SadAnswer
+    ensures { λ r.
+        ⌜ sadOutcome r
+        ≡ firstOf (vectorLines (lumaPlane (now (plane .entry)) stride width height) «mb_col» «mb_row» mv)
+        (costOf (lumaPlane (now (plane .entry)) stride width height) «mb_col» «mb_row» «src_y» mv)
+        ⌝ }
+{
+    let s = Site {
+        stride: stride,
+        width: width,
+        height: height,
+        column: mb_col,
+        row: mb_row,
+    };
+    sad_luma(plane, s, &src_y, mv, 1)
+}
+
+// The small diamond around any centre.
+pub fn small_diamond_search_luma(
+    plane: &[u8],
+    stride: usize,
+    width: usize,
+    height: usize,
+    mb_col: usize,
+    mb_row: usize,
+    src_y: [u8; 256],
+    center: Mv,
+    max_iters: u32,
+) -> DiamondAnswer
+    ensures { λ r.
+        ⌜ diamondOutcome r
+        ≡ firstOf (placeLines (lumaPlane (now (plane .entry)) stride width height) «mb_col» «mb_row»)
+        (diamond (costOf (lumaPlane (now (plane .entry)) stride width height) «mb_col» «mb_row» «src_y») center «max_iters»)
+        ⌝ }
+{
+    if bad_size(width, height) {
+        return DiamondAnswer::BadSize;
+    }
+    if short_plane(plane.len(), stride, width, height) {
+        return DiamondAnswer::ShortPlane;
+    }
+    if bad_macroblock(mb_col, mb_row) {
+        return DiamondAnswer::BadMacroblock;
+    }
+    let s = Site {
+        stride: stride,
+        width: width,
+        height: height,
+        column: mb_col,
+        row: mb_row,
+    };
+    DiamondAnswer::Found(small_diamond(plane, s, &src_y, center, max_iters))
+}
+
+// A refinement by a step of a centre on the grid of twice the step: refused where the centre's SAD is.
+fn refine_luma(plane: &[u8], s: Site, src: &[u8], center: Mv, step: u32) -> SearchAnswer
+    requires { ⌜ (length (now src) ≡ 256) × (0 < step) × (step ≤ 2) ⌝ }
+    ensures { λ r.
+        ⌜ searchOutcome r
+        ≡ firstOf (gridLines (2 * step) (planeOf (now (plane .entry)) s) (s .column) (s .row) center)
+        (refine (costAt (now (plane .entry)) s (now (src .entry))) step center)
+        ⌝ }
+{
+    let first = sad_luma(plane, s, src, center, 2 * step);
+    match first {
+        SadAnswer::Sad(sad) => {
+            SearchAnswer::Found(refine_at(
+                plane,
+                s,
+                src,
+                SearchResult {
+                    mv: center,
+                    sad: sad,
+                },
+                step,
+            ))
+        }
+        SadAnswer::BadSize => SearchAnswer::BadSize,
+        SadAnswer::ShortPlane => SearchAnswer::ShortPlane,
+        SadAnswer::BadMacroblock => SearchAnswer::BadMacroblock,
+        SadAnswer::OutOfRange => SearchAnswer::OutOfRange,
+        SadAnswer::OffGrid => SearchAnswer::OffGrid,
+    }
+}
+
+// The centre, a whole vector, and its eight neighbours at half a pixel.
+pub fn half_pixel_refine_luma(
+    plane: &[u8],
+    stride: usize,
+    width: usize,
+    height: usize,
+    mb_col: usize,
+    mb_row: usize,
+    src_y: [u8; 256],
+    whole_pixel_center: Mv,
+) -> SearchAnswer
+    ensures { λ r.
+        ⌜ searchOutcome r
+        ≡ firstOf (gridLines 4 (lumaPlane (now (plane .entry)) stride width height) «mb_col» «mb_row» «whole_pixel_center»)
+        (refine (costOf (lumaPlane (now (plane .entry)) stride width height) «mb_col» «mb_row» «src_y») 2 «whole_pixel_center»)
+        ⌝ }
+{
+    let s = Site {
+        stride: stride,
+        width: width,
+        height: height,
+        column: mb_col,
+        row: mb_row,
+    };
+    refine_luma(plane, s, &src_y, whole_pixel_center, HALF_PIXEL_STEP as u32)
+}
+
+// The centre, a vector on the grid of half pixels, and its eight neighbours at a quarter pixel.
+pub fn quarter_pixel_refine_luma(
+    plane: &[u8],
+    stride: usize,
+    width: usize,
+    height: usize,
+    mb_col: usize,
+    mb_row: usize,
+    src_y: [u8; 256],
+    half_pixel_center: Mv,
+) -> SearchAnswer
+    ensures { λ r.
+        ⌜ searchOutcome r
+        ≡ firstOf (gridLines 2 (lumaPlane (now (plane .entry)) stride width height) «mb_col» «mb_row» «half_pixel_center»)
+        (refine (costOf (lumaPlane (now (plane .entry)) stride width height) «mb_col» «mb_row» «src_y») 1 «half_pixel_center»)
+        ⌝ }
+{
+    let s = Site {
+        stride: stride,
+        width: width,
+        height: height,
+        column: mb_col,
+        row: mb_row,
+    };
+    refine_luma(
+        plane,
+        s,
+        &src_y,
+        half_pixel_center,
+        QUARTER_PIXEL_STEP as u32,
+    )
+}

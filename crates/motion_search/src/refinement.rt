@@ -1,0 +1,49 @@
+// Half and quarter refinement.
+use crate::motion_search::SearchResult;
+use crate::sads::any_sad;
+use crate::site::Site;
+use crate::vectors::raster_of;
+use prediction::motion_vector::Mv;
+ghost use mathlib.Core.Path.{_≡_};
+ghost use Prim.Native.Nat.{_≤_};
+ghost use Rattle.laws.specs.Best.{betterOf};
+ghost use Rattle.motion_search.specs.Search.{refine};
+ghost use Rattle.motion_search.specs.Conditions.{costAt, Ready, Room};
+
+// The better of the best so far and a vector: only a smaller SAD replaces the best.
+fn try_mv(plane: &[u8], s: Site, src: &[u8], best: SearchResult, mv: Mv) -> SearchResult
+    requires { ⌜ Ready (now plane) s (now src) ⌝ }
+    requires { ⌜ best .sad ≡ costAt (now plane) s (now src) (best .mv) ⌝ }
+    ensures { λ r. ⌜ r .mv ≡ betterOf (costAt (now (plane .entry)) s (now (src .entry))) (best .mv) mv ⌝ }
+    ensures { λ r. ⌜ r .sad ≡ costAt (now (plane .entry)) s (now (src .entry)) (r .mv) ⌝ }
+{
+    let sad = any_sad(plane, s, src, mv);
+    if sad < best.sad {
+        return SearchResult { mv: mv, sad: sad };
+    }
+    best
+}
+
+// The best of the centre, given with its SAD, and its eight neighbours at a step.
+pub(crate) fn refine_at(
+    plane: &[u8],
+    s: Site,
+    src: &[u8],
+    first: SearchResult,
+    step: u32,
+) -> SearchResult
+    requires { ⌜ Ready (now plane) s (now src) ⌝ }
+    requires { ⌜ first .sad ≡ costAt (now plane) s (now src) (first .mv) ⌝ }
+    requires { ⌜ (step ≤ 2) × Room step (first .mv) ⌝ }
+    ensures { λ r. ⌜ r ≡ refine (costAt (now (plane .entry)) s (now (src .entry))) step (first .mv) ⌝ }
+{
+    let center = first.mv;
+    let mut best = first;
+    let mut k: u32 = 0;
+    while k < 8 {
+        let mv = raster_of(center, step, k);
+        best = try_mv(plane, s, src, best, mv);
+        k += 1;
+    }
+    best
+}

@@ -1,0 +1,135 @@
+// Sums of absolute differences (SADs) of macroblocks.
+use crate::site::Site;
+use fetch::fetch_luma_mb_halo;
+use fetch::fetch_luma_mb_whole_pixel;
+use prediction::inverse_transform::abs_diff;
+use prediction::motion_comp::fraction;
+use prediction::motion_comp::stored_luma_mv;
+use prediction::motion_comp::whole_offset;
+use prediction::motion_vector::Mv;
+use sixtap::sixtap_mb_luma;
+ghost use mathlib.Core.Path.{_≡_};
+ghost use Prim.Native.Nat.{_+_, _-_, _*_, _/_, _%_, _≤_, _<_};
+ghost use mathlib.Core.Bool.{true};
+ghost use lib.ListN.{length, getD};
+ghost use Rattle.laws.specs.Signed.{above, below};
+ghost use Rattle.laws.specs.Sums.{sumBelow};
+ghost use Rattle.prediction.specs.Samples.{distance};
+ghost use Rattle.prediction.specs.Vector.{wholeOf};
+ghost use Rattle.motion_search.specs.Sad.{sad16};
+ghost use Rattle.motion_search.specs.Conditions.{costAt, copiedAt, predictedFrom, Ready, Copied, Inside};
+
+// The SAD of two rows of 16 samples.
+fn row_sad(a: &[u8], b: &[u8]) -> u32
+    requires { ⌜ (length (now a) ≡ 16) × (length (now b) ≡ 16) ⌝ }
+    ensures { λ r. ⌜ (r ≡ sumBelow (λ k. distance (getD (now (a .entry)) k 0) (getD (now (b .entry)) k 0)) 16) × (r ≤ 4080) ⌝ }
+{
+    let mut sum: u32 = 0;
+    let mut k = 0;
+    while k < 16 {
+        sum += abs_diff(a[k], b[k]) as u32;
+        k += 1;
+    }
+    sum
+}
+
+// The SAD of a block and of 16 rows of 16 samples of a plane, from a place on.
+fn rows_sad(src: &[u8], plane: &[u8], at: usize, stride: usize) -> u32
+    requires { ⌜ (length (now src) ≡ 256) × (at + 15 * stride + 16 ≤ length (now plane)) ⌝ }
+    ensures { λ r. ⌜ r ≡ sumBelow (λ i. distance (getD (now (src .entry)) i 0) (getD (now (plane .entry)) (at + i / 16 * stride + i % 16) 0)) 256 ⌝ }
+{
+    let mut sum: u32 = 0;
+    let mut r = 0;
+    while r < 16 {
+        let i = r * 16;
+        let j = at + r * stride;
+        sum += row_sad(&src[i..i + 16], &plane[j..j + 16]);
+        r += 1;
+    }
+    sum
+}
+
+// The SAD of two blocks.
+pub(crate) fn block_sad(src: &[u8], pred: &[u8]) -> u32
+    requires { ⌜ (length (now src) ≡ 256) × (length (now pred) ≡ 256) ⌝ }
+    ensures { λ r. ⌜ r ≡ sad16 (now (src .entry)) (now (pred .entry)) ⌝ }
+{
+    rows_sad(src, pred, 0, 16)
+}
+
+// The SAD at a vector in eighths whose fractions are not read, by the fetch: the block may lie anywhere.
+fn fetched_sad(plane: &[u8], s: Site, src: &[u8], eighths: Mv) -> u32
+    requires { ⌜ Ready (now plane) s (now src) ⌝ }
+    ensures { λ r. ⌜ r ≡ sad16 (now (src .entry)) (copiedAt (now (plane .entry)) s eighths) ⌝ }
+{
+    let x = 16 * s.column;
+    let y = 16 * s.row;
+    let fetched = fetch_luma_mb_whole_pixel(plane, s.stride, s.width, s.height, x, y, eighths);
+    let block = fetched.block;
+    block_sad(src, &block)
+}
+
+// The first coordinate of a macroblock moved by the whole offset of a component in eighths, plus 4096.
+fn displaced(mb: usize, v: i16) -> usize
+    requires { ⌜ mb ≤ 1023 ⌝ }
+    ensures { λ r. ⌜ (r + below (wholeOf v) ≡ 16 * mb + 4096 + above (wholeOf v)) × (r < 32768) ⌝ }
+{
+    16 * mb + ((whole_offset(v) + 4096) as usize)
+}
+
+// The 16 coordinates from `start` on, less 4096, are among 0 .. n - 1.
+fn lies_inside(start: usize, n: usize) -> bool
+    requires { ⌜ start < 32768 ⌝ }
+    ensures { λ r. ⌜ (r ≡ true → Inside start n) ⌝ }
+{
+    if start < 4096 {
+        return false;
+    }
+    start - 4096 + 16 <= n
+}
+
+// The SAD at a vector without fractions: rows of the plane where the block lies inside.
+pub(crate) fn whole_sad(plane: &[u8], s: Site, src: &[u8], mv: Mv) -> u32
+    requires { ⌜ Ready (now plane) s (now src) ⌝ }
+    requires { ⌜ Copied mv ⌝ }
+    ensures { λ r. ⌜ r ≡ costAt (now (plane .entry)) s (now (src .entry)) mv ⌝ }
+{
+    let eighths = stored_luma_mv(mv);
+    let left = displaced(s.column, eighths.col);
+    let top = displaced(s.row, eighths.row);
+    if lies_inside(left, s.width) {
+        if lies_inside(top, s.height) {
+            let at = (top - 4096) * s.stride + (left - 4096);
+            return rows_sad(src, plane, at, s.stride);
+        }
+    }
+    fetched_sad(plane, s, src, eighths)
+}
+
+// The SAD at a vector in eighths, by the halo and the six-tap filter.
+fn filtered_sad(plane: &[u8], s: Site, src: &[u8], eighths: Mv) -> u32
+    requires { ⌜ Ready (now plane) s (now src) ⌝ }
+    ensures { λ r. ⌜ r ≡ sad16 (now (src .entry)) (predictedFrom (now (plane .entry)) s eighths) ⌝ }
+{
+    let x = 16 * s.column;
+    let y = 16 * s.row;
+    let fetched = fetch_luma_mb_halo(plane, s.stride, s.width, s.height, x, y, eighths);
+    let halo = fetched.halo;
+    let filtered = sixtap_mb_luma(halo, fraction(eighths.col), fraction(eighths.row));
+    let block = filtered.block;
+    block_sad(src, &block)
+}
+
+// The SAD at any vector: whole vectors copy, others are filtered.
+pub(crate) fn any_sad(plane: &[u8], s: Site, src: &[u8], mv: Mv) -> u32
+    requires { ⌜ Ready (now plane) s (now src) ⌝ }
+    ensures { λ r. ⌜ r ≡ costAt (now (plane .entry)) s (now (src .entry)) mv ⌝ }
+{
+    let eighths = stored_luma_mv(mv);
+    if fraction(eighths.col) == 0 {
+        if fraction(eighths.row) == 0 {
+            return whole_sad(plane, s, src, mv);
+        }
+    }
+    filtered_sad(plane, s, src, eighths)
+}
