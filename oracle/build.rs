@@ -1,5 +1,5 @@
 //! Finds the originals and writes, into OUT_DIR only, what the crate root includes:
-//! a `mod` line for each of the six files, and a derived copy of motion_search.rs that counts.
+//! a `mod` line for each of the six files, and derived copies of motion_search.rs and arnr.rs that count.
 //! VP8_SOURCES names their folder; a relative one, as the default, is seen from the repository's root.
 
 use std::path::{Path, PathBuf};
@@ -22,7 +22,8 @@ fn main() {
     println!("cargo::rustc-env=ORACLE_SOURCES={}", folder.display());
     if missing.is_empty() {
         fs::write(out.join("sources.rs"), mod_lines(&folder, &out)).unwrap();
-        fs::write(out.join("counted_motion_search.rs"), counted(&folder)).unwrap();
+        fs::write(out.join("counted_motion_search.rs"), counted_search(&folder)).unwrap();
+        fs::write(out.join("counted_arnr.rs"), counted_builder(&folder)).unwrap();
     } else {
         println!("cargo::rustc-cfg=sources_absent");
         println!("cargo::warning=no originals: {} is without {}.rs", folder.display(), missing.join(".rs, "));
@@ -45,12 +46,14 @@ fn mod_lines(folder: &Path, out: &Path) -> String {
         format!("#[allow(dead_code, unused_imports, clippy::all)]\n#[path = {path:?}]\npub mod {name};\n")
     };
     let mut lines: String = NAMES.into_iter().map(|name| line(file(folder, name), name)).collect();
-    lines += &line(out.join("counted_motion_search.rs"), "counted_motion_search");
+    for name in ["counted_motion_search", "counted_arnr"] {
+        lines += &line(file(out, name), name);
+    }
     lines
 }
 
 // motion_search.rs with each SAD of the diamond and each round counted, and nothing else changed.
-fn counted(folder: &Path) -> String {
+fn counted_search(folder: &Path) -> String {
     let text = fs::read_to_string(file(folder, "motion_search")).unwrap();
     let text = replaced(&text, "= mb_luma_sad_at_whole_mv(", "= counted_whole_sad(", 2);
     let round = "for _ in (0..max_iters).inspect(|_| crate::counts::note_round()) {";
@@ -63,8 +66,17 @@ fn counted_whole_sad(reference: LumaRef<'_>, mb_col: usize, mb_row: usize, src_y
 "
 }
 
+// arnr.rs with each accepted block counted and each plane's sums and total weights kept, and nothing else changed.
+fn counted_builder(folder: &Path) -> String {
+    let text = fs::read_to_string(file(folder, "arnr")).unwrap();
+    let call = "                accumulate_luma_block(\n";
+    let text = replaced(&text, call, &format!("                crate::counts::note_block();\n{call}"), 1);
+    let head = "fn resolve_plane(plane: &mut [u8], acc: &[u32], wsum: &[u32]) {\n";
+    replaced(&text, head, &format!("{head}    crate::counts::note_plane(acc, wsum);\n"), 1)
+}
+
 fn replaced(text: &str, old: &str, new: &str, times: usize) -> String {
     let found = text.matches(old).count();
-    assert!(found == times, "motion_search.rs: '{old}' stands {found} times, expected {times}");
+    assert!(found == times, "'{old}' stands {found} times, expected {times}");
     text.replace(old, new)
 }

@@ -1,14 +1,21 @@
-//! Counts beneath the diamond: `counted_motion_search` is motion_search.rs with these two calls put in.
+//! Counts beneath the diamond and the builder: `counted_motion_search` is motion_search.rs with calls of
+//! `note_sad` and `note_round` put in, `counted_arnr` is arnr.rs with calls of `note_block` and `note_plane`.
 //! The unchanged file answers; the counted copy must agree with it before its counts are taken.
 
+use crate::arnr::{ArnrConfig, ArnrPicture, build_arnr_altref};
+use crate::counted_arnr;
 use crate::counted_motion_search as counted;
+use crate::encoder::{EncodeError, I420Frame};
 use crate::motion_search::{LumaRef, SearchResult, small_diamond_search_luma};
 use crate::motion_vector::Mv;
-use std::cell::Cell;
+use std::cell::{Cell, RefCell};
 
 thread_local! {
     static SADS: Cell<u64> = const { Cell::new(0) };
     static ROUNDS: Cell<u64> = const { Cell::new(0) };
+    static BLOCKS: Cell<u64> = const { Cell::new(0) };
+    // the sums and the total weights, plane after plane
+    static PLANES: RefCell<(Vec<u32>, Vec<u32>)> = const { RefCell::new((Vec::new(), Vec::new())) };
 }
 
 pub fn note_sad() {
@@ -19,15 +26,49 @@ pub fn note_round() {
     ROUNDS.set(ROUNDS.get() + 1);
 }
 
+pub fn note_block() {
+    BLOCKS.set(BLOCKS.get() + 1);
+}
+
+pub fn note_plane(acc: &[u32], wsum: &[u32]) {
+    PLANES.with_borrow_mut(|(sums, weights)| {
+        sums.extend(acc);
+        weights.extend(wsum);
+    });
+}
+
+/// The builder's picture with its sums, its total weights, both empty where the centre is only cropped,
+/// and the blocks accepted.
+pub struct CountedPicture {
+    pub picture: ArnrPicture,
+    pub sums: Vec<u32>,
+    pub weights: Vec<u32>,
+    pub accepted: u64,
+}
+
+pub fn build(frames: &[I420Frame<'_>], centre: usize, config: &ArnrConfig) -> Result<CountedPicture, EncodeError> {
+    let picture = build_arnr_altref(frames, centre, config)?;
+    BLOCKS.set(0);
+    PLANES.take();
+    let same = counted_arnr::ArnrConfig::default().with_strength(config.strength);
+    let again = counted_arnr::build_arnr_altref(frames, centre, &same)?;
+    let planes = |w, h, y: &[u8], u: &[u8], v: &[u8]| (w, h, [y, u, v].concat());
+    assert_eq!(
+        planes(picture.width, picture.height, &picture.y, &picture.u, &picture.v),
+        planes(again.width, again.height, &again.y, &again.u, &again.v),
+        "the counted copy answers otherwise"
+    );
+    let (sums, weights) = PLANES.take();
+    Ok(CountedPicture { picture, sums, weights, accepted: BLOCKS.get() })
+}
+
 /// The diamond's answer with the SADs computed and the rounds made.
-#[allow(dead_code)] // for the answers of the searches
 pub struct CountedDiamond {
     pub answer: SearchResult,
     pub sads: u64,
     pub rounds: u64,
 }
 
-#[allow(dead_code)] // for the answers of the searches
 pub fn diamond(
     reference: LumaRef<'_>,
     mb_col: usize,
@@ -49,6 +90,18 @@ pub fn diamond(
 #[cfg(test)]
 mod tests {
     use super::*;
+
+    // Centre 100, one other 104, strength 1: document 01's own values.
+    #[test]
+    fn sums_of_a_flat_pair() {
+        let (centre, other) = ([100; 256], [104; 256]);
+        let frame = |y| I420Frame::packed(16, 16, y, &centre[..64], &centre[..64]);
+        let config = ArnrConfig::new(1);
+        let got = build(&[frame(&centre), frame(&other)], 0, &config).unwrap();
+        assert_eq!((got.sums[0], got.weights[0], got.picture.y[0], got.accepted), (2432, 24, 101, 1));
+        let alone = build(&[frame(&centre)], 0, &config).unwrap();
+        assert_eq!((alone.sums.len(), alone.weights.len(), alone.accepted), (0, 0, 0));
+    }
 
     // A slope to the right: the diamond walks to the sample it came from, one column a round.
     #[test]

@@ -1,8 +1,8 @@
 //! Compiles the Rust originals unchanged and writes their answers for the replay programs.
 //!
-//!     oracle answers prediction OUTDIR
+//!     oracle answers NAME OUTDIR
 //!
-//! OUTDIR gets the folder data/ and the file stdout of the crate replay_prediction.
+//! NAME is prediction, search or arnr; OUTDIR gets the folder data/ and the file stdout of the crate replay_NAME.
 //! Exit status: 0 written; 2 bad usage; 3 the originals are not there and nothing was written;
 //! 101 an answer of the originals is not document 01's, or they panicked.
 #![cfg_attr(feature = "simd", feature(portable_simd))]
@@ -13,6 +13,8 @@ include!(concat!(env!("OUT_DIR"), "/sources.rs"));
 #[cfg(not(sources_absent))]
 mod counts;
 #[cfg(not(sources_absent))]
+mod denoiser;
+#[cfg(not(sources_absent))]
 mod paper;
 #[cfg(not(sources_absent))]
 mod prediction;
@@ -22,6 +24,8 @@ mod random;
 mod records;
 #[cfg(not(sources_absent))]
 mod refusals;
+#[cfg(not(sources_absent))]
+mod search;
 
 // What the originals import under `crate::`.
 #[cfg(not(sources_absent))]
@@ -48,7 +52,7 @@ fn main() {
             Some(Err(e)) => usage(&format!("{folder}: {e}")),
             None => usage(&format!("no answers are named {name}")),
         },
-        _ => usage("usage: oracle answers prediction OUTDIR"),
+        _ => usage("usage: oracle answers NAME OUTDIR"),
     }
 }
 
@@ -61,6 +65,8 @@ fn usage(said: &str) -> ! {
 fn answers(name: &str, folder: &Path) -> Option<std::io::Result<()>> {
     match name {
         "prediction" => Some(prediction::write(folder)),
+        "search" => Some(search::write(folder)),
+        "arnr" => Some(denoiser::write(folder)),
         _ => None,
     }
 }

@@ -1,5 +1,9 @@
-//! Document 01's rules for the luma prediction, read anew. Each answer of the originals is held
-//! against these before it is written; where they part, the run stops and says so.
+//! Document 01's rules for the luma prediction, read anew; below them those for the searches and for
+//! the denoiser. Each answer of the originals is held against these before it is written; where they
+//! part, the run stops and says so.
+
+pub mod denoiser;
+pub mod search;
 
 use crate::motion_vector::Mv;
 
@@ -23,7 +27,7 @@ pub struct Plane<'a> {
 
 impl Plane<'_> {
     // Samples outside a plane are its nearest edge sample.
-    fn sample(&self, col: i64, row: i64) -> u8 {
+    pub fn sample(&self, col: i64, row: i64) -> u8 {
         let col = col.clamp(0, self.width as i64 - 1) as usize;
         let row = row.clamp(0, self.height as i64 - 1) as usize;
         self.bytes[row * self.stride + col]

@@ -1,9 +1,87 @@
 //! Document 01's refusals, in its order, in exact arithmetic. 0 means that the call is accepted.
 //! Only accepted inputs are handed to the originals.
 
-/// A reference plane and the place of a macroblock, as a fetch takes them.
+use crate::motion_vector::Mv;
+
+/// A window as the builder takes it: the length of the picture bytes, the frames, and the lent slices' lengths.
 #[derive(Clone, Copy)]
-pub struct Fetch {
+pub struct Build<'a> {
+    pub bytes: u64,
+    pub frames: &'a [[u32; 7]],
+    pub centre: u64,
+    pub output: u64,
+    pub sums: u64,
+    pub weights: u64,
+}
+
+/// 1: the centre index is not below the frame count. 2: the frame count exceeds 1024. 3: the centre's
+/// width or height is 0 or above 16383. 4: a frame's size differs from the centre's. 5: a plane does not
+/// fit the picture bytes. 6: the output is shorter than P. 7: a working slice is. With the values returned.
+pub fn of_build(b: Build) -> (u64, Vec<u64>) {
+    if b.centre >= b.frames.len() as u64 {
+        return (1, vec![]);
+    }
+    if b.frames.len() > 1024 {
+        return (2, vec![]);
+    }
+    let centre = size(&b.frames[b.centre as usize]);
+    if !legal_size(centre[0], centre[1]) {
+        return (3, centre.to_vec());
+    }
+    if let Some(other) = b.frames.iter().find(|frame| size(frame) != centre) {
+        return (4, [size(other), centre].concat());
+    }
+    if let Some(index) = b.frames.iter().position(|frame| planes(frame).iter().any(|p| p.end() > b.bytes.into())) {
+        return (5, vec![index as u64]);
+    }
+    let samples = packed_size(centre[0], centre[1]);
+    if b.output < samples {
+        return (6, vec![]);
+    }
+    if b.sums < samples || b.weights < samples {
+        return (7, vec![]);
+    }
+    (0, vec![])
+}
+
+/// P, the samples of all three planes.
+pub fn packed_size(width: u64, height: u64) -> u64 {
+    width * height + 2 * width.div_ceil(2) * height.div_ceil(2)
+}
+
+fn size(frame: &[u32; 7]) -> [u64; 2] {
+    [frame[0].into(), frame[1].into()]
+}
+
+/// A plane in the picture bytes.
+pub struct Part {
+    pub start: u64,
+    pub stride: u64,
+    pub columns: u64,
+    pub rows: u64,
+}
+
+impl Part {
+    /// start + (rows - 1) times stride + columns.
+    pub fn end(&self) -> u128 {
+        u128::from(self.start) + (u128::from(self.rows) - 1) * u128::from(self.stride) + u128::from(self.columns)
+    }
+}
+
+/// Y, U and V of a frame whose width and height are not 0.
+pub fn planes(frame: &[u32; 7]) -> [Part; 3] {
+    let [width, height, y, u, v, luma, chroma] = frame.map(u64::from);
+    let (columns, rows) = (width.div_ceil(2), height.div_ceil(2));
+    [
+        Part { start: y, stride: luma, columns: width, rows: height },
+        Part { start: u, stride: chroma, columns, rows },
+        Part { start: v, stride: chroma, columns, rows },
+    ]
+}
+
+/// A reference plane and the place of a macroblock: its pixel origin for a fetch, its column and row for a search.
+#[derive(Clone, Copy)]
+pub struct Place {
     pub len: u64,
     pub stride: u64,
     pub width: u64,
@@ -13,18 +91,41 @@ pub struct Fetch {
 }
 
 /// 8: the width or height is 0 or above 16383. 9: the plane is shorter than (height - 1) times
-/// stride + width. 10: the origin exceeds 16368 in either direction.
-pub fn of_fetch(f: Fetch) -> u64 {
-    if !legal_size(f.width, f.height) {
+/// stride + width. 10: the place exceeds `most` in either direction.
+fn of_place(p: Place, most: u64) -> u64 {
+    if !legal_size(p.width, p.height) {
         return 8;
     }
-    if plane_is_short(f.len, f.stride, f.width, f.height) {
+    if plane_is_short(p.len, p.stride, p.width, p.height) {
         return 9;
     }
-    if f.x > 16368 || f.y > 16368 {
+    if p.x > most || p.y > most {
         return 10;
     }
     0
+}
+
+/// 10 of a fetch: the origin exceeds 16368 in either direction.
+pub fn of_fetch(p: Place) -> u64 {
+    of_place(p, 16368)
+}
+
+/// 10 of a search: the macroblock column or row exceeds 1023.
+pub fn of_diamond(p: Place) -> u64 {
+    of_place(p, 1023)
+}
+
+/// 11 after those: a component is outside -1023..1023.
+pub fn of_vector(p: Place, mv: Mv) -> u64 {
+    let before = of_diamond(p);
+    let outside = |v: i16| !(-1023..=1023).contains(&v);
+    if before == 0 && (outside(mv.row) || outside(mv.col)) { 11 } else { before }
+}
+
+/// 12 after those: a component is not a multiple of 4, or of 2.
+pub fn of_vector_on_grid(p: Place, mv: Mv, grid: i16) -> u64 {
+    let before = of_vector(p, mv);
+    if before == 0 && (mv.row % grid != 0 || mv.col % grid != 0) { 12 } else { before }
 }
 
 pub fn legal_size(width: u64, height: u64) -> bool {

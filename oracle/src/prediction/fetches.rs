@@ -1,12 +1,12 @@
 //! Cases of both fetches, by the size of the plane, the empty one first.
 
-use super::{COMPONENTS, packed};
+use super::COMPONENTS;
 use crate::motion_comp::{fetch_luma_mb_halo, fetch_luma_mb_whole_pixel, stored_luma_mv};
 use crate::motion_vector::Mv;
 use crate::paper::Plane;
 use crate::random::Random;
-use crate::records::Records;
-use crate::refusals::{Fetch, of_fetch};
+use crate::records::{Records, packed};
+use crate::refusals::{Place, of_fetch};
 
 const HUGE: u64 = u64::MAX;
 const HALF: u64 = 1 << 63;
@@ -57,7 +57,7 @@ fn write(records: &mut Records, planes: &[u8], case: &Case, index: usize) {
     let Case { len, stride, size: (width, height), origin: (x, y), mv, in_quarters } = *case;
     let start = if len < 8192 { index * 37 % (planes.len() - len) } else { planes.len() - len };
     let bytes = &planes[start..start + len];
-    let refusal = of_fetch(Fetch { len: len as u64, stride, width, height, x, y });
+    let refusal = of_fetch(Place { len: len as u64, stride, width, height, x, y });
     let (mut block, mut halo) = ([0; 256], [0; 441]);
     if refusal == 0 {
         let eighths = if in_quarters { stored_luma_mv(mv) } else { mv };

@@ -24,9 +24,8 @@ mod fetches;
 mod filters;
 mod numbers;
 
-use crate::motion_vector::Mv;
 use crate::random::Random;
-use crate::records::{Records, biased16};
+use crate::records::Records;
 use std::path::Path;
 
 const PLANES: usize = 32768;
@@ -51,7 +50,7 @@ const CALLS: [&str; 10] = [
 /// Writes data/planes, data/cases and stdout, which is what a replay prints where nothing differs.
 pub fn write(folder: &Path) -> std::io::Result<()> {
     let planes = Random::new(1).bytes(PLANES);
-    let mut records = Records::default();
+    let mut records = Records::new(10);
     let groups = fetches::add(&mut records, &planes);
     filters::add(&mut records);
     numbers::add(&mut records);
@@ -73,8 +72,4 @@ fn printed(groups: &[(usize, usize)], records: &Records) -> String {
         text += &format!("{name}: {cases} compared, 0 differ\n");
     }
     text + &format!("all: {all} compared, 0 differ\n")
-}
-
-fn packed(mv: Mv) -> u64 {
-    biased16(mv.row) + 65536 * biased16(mv.col)
 }

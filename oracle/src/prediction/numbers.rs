@@ -3,7 +3,7 @@
 //! the SAD of two macroblocks that differ in one sample, a whole offset is seen in what a fetch reads,
 //! and a fraction is what `apply_full_pixel` takes away.
 
-use super::{COMPONENTS, packed};
+use super::COMPONENTS;
 use crate::inverse_transform::clamp255;
 use crate::motion_comp::{
     FilterSet, apply_full_pixel, fetch_luma_mb_whole_pixel, filter_set_for_version, stored_luma_mv,
@@ -12,7 +12,7 @@ use crate::motion_search::block_sad_16x16;
 use crate::motion_vector::Mv;
 use crate::paper;
 use crate::random::Random;
-use crate::records::{Records, biased16, biased32};
+use crate::records::{Records, biased16, biased32, packed};
 
 pub fn add(records: &mut Records) {
     for v in clamped_numbers() {

@@ -1,0 +1,70 @@
+// The numbers of a record, and what they stand for.
+ghost use Prim.Native.Nat.{_<_};
+use prediction::motion_vector::Mv;
+
+fn wide(b: u8) -> usize
+    ensures { λ r. ⌜ r < 256 ⌝ }
+{
+    b as usize
+}
+
+// A byte; 0 past the end.
+pub fn byte_at(bytes: &[u8], at: usize) -> u8 {
+    if at < bytes.len() { bytes[at] } else { 0 }
+}
+
+// The number at an index from 0 to 15: eight bytes, the lowest first.
+pub fn number(record: &[u8; 128], index: usize) -> usize {
+    if 15 < index {
+        return 0;
+    }
+    let mut n: usize = 0;
+    for k in 0..8usize {
+        n = n % 72057594037927936 * 256 + wide(record[index * 8 + 7 - k]);
+    }
+    n
+}
+
+// A 32-bit number.
+pub fn word(n: usize) -> u32 {
+    (n % 4294967296) as u32
+}
+
+// A 16-bit component that was stored with 32768 added. `!n` is -1 - n.
+fn component(biased: usize) -> i16 {
+    let n = biased % 65536;
+    if 32768 <= n {
+        (n - 32768) as i16
+    } else {
+        !((32767 - n) as i16)
+    }
+}
+
+pub fn vector(packed: usize) -> Mv {
+    let row = component(packed);
+    let col = component(packed / 65536);
+    Mv { row: row, col: col }
+}
+
+// A plane: a part of the samples; nothing where it runs past them.
+pub fn part(samples: &[u8], start: usize, len: usize) -> &[u8] {
+    if start <= samples.len() {
+        if len <= samples.len() - start {
+            &samples[start..start + len]
+        } else {
+            &samples[..0]
+        }
+    } else {
+        &samples[..0]
+    }
+}
+
+// A macroblock: 256 of the samples.
+pub fn block(samples: &[u8], start: usize) -> [u8; 256] {
+    let from = start % 4294967296;
+    let mut all = [0u8; 256];
+    for k in 0..256usize {
+        all[k] = byte_at(samples, from + k);
+    }
+    all
+}

@@ -1,0 +1,204 @@
+//! The answers for the crate `arnr`: the files `pictures` and `cases` of the replay's data/, and its stdout.
+//!
+//! `pictures` is laid out in pictures.rs; the picture bytes of a case are its first ones. `cases` is a file of
+//! records of 18 numbers (see records.rs). Counted from 0:
+//!
+//! kinds 1 to 5, the builder, by what the case is for (see `KINDS`): [1] refusal or 0, [2] length of the picture
+//!     bytes, [3] numbers stored, [4] numbers given, which are the stored ones again and again, [5] centre,
+//!     [6] strength, [7] how the configuration is made, [8] length of the output, [9] of the sums, [10] of the
+//!     weights, [11] bytes written to the output, [12] entries written to the sums and to the weights,
+//!     [13] to [16] the values of a refusal, or width, height and accepted blocks, [17] bytes of the payload;
+//!     payload: the stored numbers, four bytes each, what is written to the output, then to the sums and to
+//!     the weights, three bytes each; numbers have the least byte first
+//! kind 6, ArnrConfig: [1] the strength stored, [6] the strength given, [7] how the configuration is made
+//!
+//! A configuration is made 0 by with_strength on the default one, 1 by new, 2 by default.
+//! What a call does not write, the replay expects to find as it was.
+
+mod pictures;
+mod refused;
+mod windows;
+
+use crate::arnr::ArnrConfig;
+use crate::counts;
+use crate::encoder::{EncodeError, I420Frame};
+use crate::paper::denoiser::{Built, Window, build};
+use crate::records::Records;
+use crate::refusals::{self, Build, packed_size, planes};
+use std::path::Path;
+
+/// What the cases of each kind are for, from 1 on, in the order in which the replay prints them.
+const KINDS: [&str; 6] = ["no frames", "one frame", "strength 0", "windows", "refusals", "configurations"];
+
+/// What the replay has room for: entries of each lent slice, numbers, and bytes of a payload.
+const MOST_LENT: usize = 40000;
+const MOST_NUMBERS: usize = 7200;
+const MOST_PAYLOAD: usize = 240000;
+
+/// Seven numbers.
+type Frame = [u32; 7];
+
+#[derive(Clone)]
+struct Case {
+    kind: u64,
+    bytes: usize,
+    stored: Vec<u32>,
+    given: usize,
+    centre: u64,
+    strength: u8,
+    made: u64,
+    lent: [usize; 3],
+}
+
+struct Writer<'a> {
+    pictures: &'a [u8],
+    records: Records,
+}
+
+/// Writes data/pictures, data/cases and stdout, which is what a replay prints where nothing differs.
+pub fn write(folder: &Path) -> std::io::Result<()> {
+    let pictures = pictures::all();
+    let mut writer = Writer { pictures: &pictures, records: Records::new(18) };
+    windows::add(&mut writer);
+    refused::add(&mut writer);
+    add_configurations(&mut writer.records);
+    std::fs::create_dir_all(folder.join("data"))?;
+    std::fs::write(folder.join("data/pictures"), &pictures)?;
+    std::fs::write(folder.join("stdout"), printed(&writer.records))?;
+    writer.records.write(&folder.join("data/cases"))
+}
+
+fn printed(records: &Records) -> String {
+    let line = |name: &str, cases: u64| format!("{name}: {cases} compared, 0 differ\n");
+    let cases: Vec<u64> = (1..=6).map(|kind| records.of_kind(kind)).collect();
+    let kinds: String = KINDS.iter().zip(&cases).map(|(name, &cases)| line(name, cases)).collect();
+    kinds + &line("all", cases.iter().sum())
+}
+
+fn configuration(made: u64, strength: u8) -> ArnrConfig {
+    match made {
+        0 => ArnrConfig::default().with_strength(strength),
+        1 => ArnrConfig::new(strength),
+        _ => ArnrConfig::default(),
+    }
+}
+
+fn add_configurations(records: &mut Records) {
+    for strength in 0..=255 {
+        for made in if strength == 0 { 0..3 } else { 0..2 } {
+            let stored = configuration(made, strength).strength;
+            let expected = [strength, strength.min(6), 3][made as usize];
+            assert_eq!(stored, expected, "configuration {made} of {strength}");
+            records.add(6, stored.into(), &[0, 0, 0, 0, strength.into(), made], &[]);
+        }
+    }
+}
+
+impl Case {
+    // A window of frames over all picture bytes, with slices that are just long enough.
+    fn new(kind: u64, frames: &[Frame], centre: u64, strength: u8) -> Case {
+        let stored = frames.concat();
+        let size = frames.get(centre as usize).map(|f| (f[0].into(), f[1].into()));
+        let legal = size.filter(|&(width, height)| refusals::legal_size(width, height));
+        let samples = legal.map_or(0, |(width, height)| packed_size(width, height) as usize);
+        let given = stored.len();
+        Case { kind, bytes: pictures::LEN, stored, given, centre, strength, made: 0, lent: [samples; 3] }
+    }
+
+    // The same with slices longer by so many entries.
+    fn longer(self, by: [usize; 3]) -> Case {
+        let lent = std::array::from_fn(|k| self.lent[k] + by[k]);
+        Case { lent, ..self }
+    }
+
+    fn numbers(&self) -> Vec<u32> {
+        self.stored.iter().cycle().take(self.given).copied().collect()
+    }
+
+    // Numbers left over are not read.
+    fn frames(&self) -> Vec<Frame> {
+        self.numbers().chunks_exact(7).map(|f| f.try_into().unwrap()).collect()
+    }
+}
+
+impl Writer<'_> {
+    fn put(&mut self, case: &Case) {
+        let frames = case.frames();
+        let (refusal, values) = self.refusal(case, &frames);
+        let (built, values) = if refusal == 0 {
+            let built = self.built(case, &frames);
+            let size = frames[case.centre as usize];
+            let values = vec![size[0].into(), size[1].into(), built.accepted];
+            (built, values)
+        } else {
+            (Built::default(), values)
+        };
+        let payload = [
+            case.stored.iter().flat_map(|n| n.to_le_bytes()).collect::<Vec<u8>>(),
+            built.output.clone(),
+            of_three_bytes(&built.sums),
+            of_three_bytes(&built.weights),
+        ]
+        .concat();
+        assert!(payload.len() <= MOST_PAYLOAD && case.given <= MOST_NUMBERS);
+        assert!(case.lent.iter().all(|&len| len <= MOST_LENT));
+        let mut numbers = [case.bytes, case.stored.len(), case.given].map(|n| n as u64).to_vec();
+        numbers.extend([case.centre, case.strength.into(), case.made]);
+        numbers.extend(case.lent.map(|n| n as u64));
+        numbers.extend([built.output.len() as u64, built.sums.len() as u64]);
+        numbers.extend([0, 1, 2, 3].map(|k| values.get(k).copied().unwrap_or(0)));
+        numbers.push(payload.len() as u64);
+        self.records.add(case.kind, refusal, &numbers, &[&payload]);
+    }
+
+    // The refusal with its values; 3 and 4 are the original's own errors, unless 1 or 2 comes before them.
+    fn refusal(&self, case: &Case, frames: &[Frame]) -> (u64, Vec<u64>) {
+        let [output, sums, weights] = case.lent.map(|n| n as u64);
+        let bytes = case.bytes as u64;
+        let found = refusals::of_build(Build { bytes, frames, centre: case.centre, output, sums, weights });
+        if found.0 == 3 || found.0 == 4 {
+            let bare = |f: &Frame| I420Frame { width: f[0], height: f[1], ..I420Frame::packed(0, 0, &[], &[], &[]) };
+            let bare: Vec<I420Frame> = frames.iter().map(bare).collect();
+            let said = counts::build(&bare, case.centre as usize, &configuration(case.made, case.strength)).err();
+            let v: Vec<u32> = found.1.iter().map(|&n| n as u32).collect();
+            let expected = match v[..] {
+                [width, height] => EncodeError::InvalidDimensions { width, height },
+                _ => EncodeError::ReferenceDimensionsMismatch { source: (v[2], v[3]), reference: (v[0], v[1]) },
+            };
+            assert_eq!(said, Some(expected));
+        }
+        found
+    }
+
+    // What an accepted build leaves, from the original, held against document 01's rules.
+    fn built(&self, case: &Case, frames: &[Frame]) -> Built {
+        let bytes = &self.pictures[..case.bytes];
+        let part = |p: &refusals::Part| &bytes[p.start as usize..p.end() as usize];
+        let pictures: Vec<I420Frame> = frames
+            .iter()
+            .map(|f| {
+                let [y, u, v] = planes(f);
+                let strides = [y.stride as usize, u.stride as usize];
+                let [y, u, v] = [part(&y), part(&u), part(&v)];
+                I420Frame { width: f[0], height: f[1], y, u, v, y_stride: strides[0], uv_stride: strides[1] }
+            })
+            .collect();
+        let config = configuration(case.made, case.strength);
+        let got = counts::build(&pictures, case.centre as usize, &config).expect("an accepted window");
+        let output = [&got.picture.y[..], &got.picture.u, &got.picture.v].concat();
+        let got = Built { output, sums: got.sums, weights: got.weights, accepted: got.accepted };
+        let window = Window { bytes, frames, centre: case.centre as usize, strength: config.strength };
+        assert!(
+            got == build(&window),
+            "a window of {} frames, centre {:?}",
+            frames.len(),
+            frames[case.centre as usize]
+        );
+        got
+    }
+}
+
+fn of_three_bytes(numbers: &[u32]) -> Vec<u8> {
+    assert!(numbers.iter().all(|&n| n < 1 << 24));
+    numbers.iter().flat_map(|n| n.to_le_bytes().into_iter().take(3)).collect()
+}

@@ -1,0 +1,126 @@
+//! The file `pictures`. A frame's planes are parts of it, by start and stride, so that windows share bytes and
+//! a moved frame is the same bytes from another start.
+
+use super::Frame;
+use crate::random::Random;
+
+/// Smooth, 160 by 96, and the same with noise.
+const TEXTURE: usize = 0;
+const SHAKEN: usize = TEXTURE + 160 * 96;
+/// Noise of 256 levels, then of 36.
+const NOISE: usize = SHAKEN + 160 * 96;
+/// 0 to 255, each twice.
+const RAMP: usize = NOISE + 8192;
+/// 40 by 40 of 0 and 255, of 100 and 106, and of 90 and 140 in squares of two by two.
+const CHECKERS: usize = RAMP + 512;
+/// 1100 bytes of each of `LEVELS`.
+const FLATS: usize = CHECKERS + 3 * 1600;
+pub const LEVELS: [u8; 6] = [100, 104, 112, 113, 0, 255];
+/// Four of 33 by 33: symmetric about each diagonal, left to right, and top to bottom.
+const MIRRORS: usize = FLATS + 6 * 1100;
+/// For each of `CUT_SIZES` and each of `CUT_PLACES`: 113 but for one sample of 112.
+const CUTS: usize = MIRRORS + 4 * 1089;
+pub const CUT_SIZES: [(u32, u32); 8] = [(16, 16), (1, 1), (2, 2), (15, 16), (16, 15), (1, 16), (16, 1), (7, 9)];
+pub const LEN: usize = CUTS + 2 * 8 * 256;
+
+pub fn all() -> Vec<u8> {
+    let mut random = Random::new(21);
+    let texture = smooth((160, 96), 9, 3, &mut random);
+    let mut bytes = texture.clone();
+    bytes.extend(texture.iter().map(|&b| b.saturating_add(random.below(13) as u8).saturating_sub(6)));
+    bytes.extend(random.bytes(4096));
+    bytes.extend((0..4096).map(|_| 80 + random.below(36) as u8));
+    bytes.extend((0..512).map(|i| (i / 2) as u8));
+    let even = |i: usize, unit: usize| (i / 40 / unit + i % 40 / unit).is_multiple_of(2);
+    bytes.extend((0..1600).map(|i| if even(i, 1) { 0 } else { 255 }));
+    bytes.extend((0..1600).map(|i| if even(i, 1) { 100 } else { 106 }));
+    bytes.extend((0..1600).map(|i| if even(i, 2) { 90 } else { 140 }));
+    for level in LEVELS {
+        bytes.extend([level; 1100]);
+    }
+    for axis in 0..4 {
+        let picture = smooth((33, 33), 5, 1, &mut random);
+        bytes.extend((0..1089).map(|i| picture[i.min(across(axis, i))]));
+    }
+    for (width, height) in CUT_SIZES {
+        for place in [0, height / 2 * width + width / 2] {
+            bytes.extend((0..256).map(|i| if i == place { 112 } else { 113 }));
+        }
+    }
+    assert_eq!(bytes.len(), LEN);
+    bytes
+}
+
+// Where the sample across the axis stands, of 33 by 33.
+fn across(axis: usize, i: usize) -> usize {
+    let (r, c) = (i / 33, i % 33);
+    match axis {
+        0 => c * 33 + r,
+        1 => (32 - c) * 33 + 32 - r,
+        2 => r * 33 + 32 - c,
+        _ => (32 - r) * 33 + c,
+    }
+}
+
+// Noise, each sample the mean of n by n of it, its distance from 128 taken so many times.
+fn smooth((width, height): (usize, usize), n: usize, times: i64, random: &mut Random) -> Vec<u8> {
+    let noise = random.bytes((width + n) * (height + n));
+    let at = |r: usize, c: usize| i64::from(noise[r * (width + n) + c]);
+    let mean = |r: usize, c: usize| (0..n * n).map(|k| at(r + k / n, c + k % n)).sum::<i64>() / (n * n) as i64;
+    let stretched = |v: i64| ((v - 128) * times + 128).clamp(0, 255) as u8;
+    (0..width * height).map(|i| stretched(mean(i / width, i % width))).collect()
+}
+
+/// A frame from its size, the starts of its planes and its strides.
+pub fn frame((width, height): (u32, u32), starts: [usize; 3], strides: (usize, usize)) -> Frame {
+    let [y, u, v] = starts.map(|n| n as u32);
+    [width, height, y, u, v, strides.0 as u32, strides.1 as u32]
+}
+
+/// The texture from (40 + x, 30 + y) on; chroma lies further down and moves by half.
+pub fn texture(size: (u32, u32), (x, y): (i32, i32), shaken: bool) -> Frame {
+    let base = if shaken { SHAKEN } else { TEXTURE } as i32;
+    let at = |x: i32, y: i32| (base + y * 160 + x) as usize;
+    let starts = [at(40 + x, 30 + y), at(20 + x / 2, 50 + y / 2), at(90 + x / 2, 20 + y / 2)];
+    frame(size, starts, (160, 160))
+}
+
+/// Noise, packed: of few levels where the index is odd.
+pub fn noise((width, height): (u32, u32), index: usize) -> Frame {
+    let (width, height) = (width as usize, height as usize);
+    let (columns, rows) = (width.div_ceil(2), height.div_ceil(2));
+    let y = NOISE + index * 379 % 2400 + index % 2 * 4096;
+    let u = y + width * height;
+    frame((width as u32, height as u32), [y, u, u + columns * rows], (width, columns))
+}
+
+/// A ramp; the strides are 0, 1 and 2, below the width.
+pub fn ramp(size: (u32, u32), index: usize) -> Frame {
+    let at = |k: usize| RAMP + (index * 5 + k * 60) % 380;
+    frame(size, [at(0), at(1), at(2)], (index % 3, (index + 1) % 3))
+}
+
+/// One of three checkers, from its first or from its second sample on.
+pub fn checkers(size: (u32, u32), index: usize) -> Frame {
+    let at = CHECKERS + 1600 * (index / 2 % 3) + index % 2;
+    frame(size, [at; 3], (40, 40))
+}
+
+/// One level in luma, and one in chroma.
+pub fn flat(size: (u32, u32), luma: usize, chroma: usize) -> Frame {
+    let at = |level: usize| FLATS + 1100 * level;
+    let (width, columns) = (size.0 as usize, size.0.div_ceil(2) as usize);
+    frame(size, [at(luma), at(chroma), at(chroma)], (width, columns))
+}
+
+/// A symmetric picture, its three planes the same bytes.
+pub fn mirror(size: (u32, u32), axis: usize) -> Frame {
+    frame(size, [MIRRORS + 1089 * axis; 3], (33, 33))
+}
+
+/// A picture of a cut size whose luma is 113 but for one sample in a corner or in the middle.
+pub fn cut(index: usize, middle: usize) -> Frame {
+    let size = CUT_SIZES[index];
+    let at = CUTS + 512 * index + 256 * middle;
+    frame(size, [at, FLATS, FLATS], (size.0 as usize, size.0.div_ceil(2) as usize))
+}

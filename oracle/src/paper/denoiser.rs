@@ -1,0 +1,113 @@
+//! Document 01's rules for the denoiser, sample by sample: no early exit, no in-bounds path, no running sums.
+
+use super::Plane;
+use crate::refusals::{packed_size, planes};
+
+/// An accepted window.
+pub struct Window<'a> {
+    pub bytes: &'a [u8],
+    pub frames: &'a [[u32; 7]],
+    pub centre: usize,
+    pub strength: u8,
+}
+
+/// What a build leaves; the sums and total weights are empty where the centre is only cropped.
+#[derive(Debug, Default, PartialEq, Eq)]
+pub struct Built {
+    pub output: Vec<u8>,
+    pub sums: Vec<u32>,
+    pub weights: Vec<u32>,
+    pub accepted: u64,
+}
+
+// What the search found for one block of one frame.
+struct Match {
+    shift: (i64, i64),
+    accepted: bool,
+}
+
+/// 16s divided by (s + e times e), rounded down; s is 8 times 2 to the strength, 7 to 255 read as 6.
+pub fn weight(strength: u8, e: u8) -> u32 {
+    let s = 8 * 2u32.pow(u32::from(strength.min(6)));
+    16 * s / (s + u32::from(e) * u32::from(e))
+}
+
+pub fn build(w: &Window) -> Built {
+    let [width, height] = [0, 1].map(|k| w.frames[w.centre][k] as usize);
+    let centre = w.planes(w.centre);
+    let others: Vec<usize> = (0..w.frames.len()).filter(|&g| g != w.centre).collect();
+    let cropped = others.is_empty() || w.strength == 0;
+    let columns = width.div_ceil(16);
+    let blocks = columns * height.div_ceil(16);
+    let matches: Vec<Vec<Match>> = if cropped {
+        Vec::new()
+    } else {
+        let of_frame = |&g: &usize| (0..blocks).map(|b| found(&centre[0], &w.planes(g)[0], b, columns)).collect();
+        others.iter().map(of_frame).collect()
+    };
+    let mut built =
+        Built { accepted: matches.iter().flatten().filter(|m| m.accepted).count() as u64, ..Built::default() };
+    for (k, plane) in centre.iter().enumerate() {
+        let unit = if k == 0 { 16 } else { 8 };
+        for (x, y) in places(plane) {
+            let c = plane.sample(x, y);
+            if cropped {
+                built.output.push(c);
+                continue;
+            }
+            let block = y as usize / unit * columns + x as usize / unit;
+            let of_other = |(i, &g): (usize, &usize)| w.share(g, k, &matches[i][block], x, y, c);
+            let shares: Vec<(u32, u8)> = others.iter().enumerate().map(of_other).collect();
+            let total = 16 + shares.iter().map(|s| s.0).sum::<u32>();
+            let sum = 16 * u32::from(c) + shares.iter().map(|s| s.0 * u32::from(s.1)).sum::<u32>();
+            built.output.push(((sum + total / 2) / total) as u8);
+            built.sums.push(sum);
+            built.weights.push(total);
+        }
+    }
+    assert_eq!(built.output.len() as u64, packed_size(width as u64, height as u64));
+    built
+}
+
+impl Window<'_> {
+    fn planes(&self, g: usize) -> [Plane<'_>; 3] {
+        planes(&self.frames[g]).map(|p| {
+            let [stride, width, height] = [p.stride, p.columns, p.rows].map(|n| n as usize);
+            Plane { bytes: &self.bytes[p.start as usize..], stride, width, height }
+        })
+    }
+
+    // The weight of frame g's displaced sample, and that sample.
+    fn share(&self, g: usize, k: usize, m: &Match, x: i64, y: i64, c: u8) -> (u32, u8) {
+        let (dx, dy) = if k == 0 { m.shift } else { (m.shift.0 / 2, m.shift.1 / 2) };
+        let displaced = self.planes(g)[k].sample(x + dx, y + dy);
+        (if m.accepted { weight(self.strength, displaced.abs_diff(c)) } else { 0 }, displaced)
+    }
+}
+
+fn places(plane: &Plane) -> Vec<(i64, i64)> {
+    let (width, height) = (plane.width as i64, plane.height as i64);
+    (0..width * height).map(|i| (i % width, i / width)).collect()
+}
+
+// The block search: 33 comparisons from (0, 0), and whether its last best is accepted.
+fn found(centre: &Plane, other: &Plane, block: usize, columns: usize) -> Match {
+    let (bx, by) = ((block % columns * 16) as i64, (block / columns * 16) as i64);
+    let (bw, bh) = ((centre.width as i64 - bx).min(16), (centre.height as i64 - by).min(16));
+    let sad = |(dx, dy): (i64, i64)| -> i64 {
+        let at = |i: i64| (bx + i % bw, by + i / bw);
+        let distance = |(x, y)| i64::from(centre.sample(x, y).abs_diff(other.sample(x + dx, y + dy)));
+        (0..bw * bh).map(|i| distance(at(i))).sum()
+    };
+    let mut best = ((0, 0), sad((0, 0)));
+    for step in [8, 4, 2, 1] {
+        let (cx, cy) = best.0;
+        for (dy, dx) in (0..9).map(|k| (k / 3 * step - step, k % 3 * step - step)).filter(|d| *d != (0, 0)) {
+            let tried = ((cx + dx, cy + dy), sad((cx + dx, cy + dy)));
+            if tried.1 < best.1 {
+                best = tried;
+            }
+        }
+    }
+    Match { shift: best.0, accepted: best.1 < 13 * bw * bh }
+}

@@ -1,0 +1,222 @@
+//! The answers for the crate `motion_search`: the files `samples` and `cases` of the replay's data/, and its stdout.
+//!
+//! `samples` is laid out in samples.rs; a plane is a part of it, a macroblock 256 bytes of it. `cases` is a
+//! file of records of 16 numbers (see records.rs), none with a payload. Counted from 0:
+//!
+//! kind 1, block_sad_16x16: [2] and [9] where the two macroblocks start; [12] the SAD
+//! kind 2, mb_luma_sad_at_whole_mv: [1] refusal or 0, [2] start and [3] length of the plane, [4] stride,
+//!     [5] width, [6] height, [7] macroblock column, [8] row, [9] start of the macroblock, [10] vector; [12] the SAD
+//! kind 3, mb_luma_sad_at_mv: the same
+//! kind 4, small_diamond_search_luma: the same and [11] the limit; [12] the SAD found, [13] the vector found,
+//!     [14] the SADs computed, [15] the rounds made
+//! kind 5, half_pixel_refine_luma: as kind 2; [12] the SAD found, [13] the vector found
+//! kind 6, quarter_pixel_refine_luma: the same
+//!
+//! What a call that is refused would find is stored as 0.
+
+mod accepted;
+mod refused;
+mod samples;
+
+use crate::motion_search as original;
+use crate::motion_search::LumaRef;
+use crate::motion_vector::Mv;
+use crate::paper::{self, Plane};
+use crate::records::{Records, packed};
+use crate::refusals::{self, Place};
+use crate::{counts, random::Random};
+use std::path::Path;
+
+/// The calls in the order in which the replay prints them, by kind from 1 on.
+const CALLS: [&str; 6] = [
+    "block_sad_16x16",
+    "mb_luma_sad_at_whole_mv",
+    "mb_luma_sad_at_mv",
+    "small_diamond_search_luma",
+    "half_pixel_refine_luma",
+    "quarter_pixel_refine_luma",
+];
+
+/// A plane, a macroblock's place in it, the macroblock's own samples, a vector, and the diamond's limit.
+#[derive(Clone, Copy)]
+struct Case {
+    start: usize,
+    len: usize,
+    stride: u64,
+    size: (u64, u64),
+    mb: (u64, u64),
+    source: usize,
+    mv: (i16, i16),
+    limit: u32,
+}
+
+struct Writer<'a> {
+    samples: &'a [u8],
+    records: Records,
+}
+
+/// Writes data/samples, data/cases and stdout, which is what a replay prints where nothing differs.
+pub fn write(folder: &Path) -> std::io::Result<()> {
+    let samples = samples::all();
+    let mut writer = Writer { samples: &samples, records: Records::new(16) };
+    refused::add(&mut writer);
+    accepted::add(&mut writer);
+    add_block_sads(&mut writer);
+    std::fs::create_dir_all(folder.join("data"))?;
+    std::fs::write(folder.join("data/samples"), &samples)?;
+    std::fs::write(folder.join("stdout"), printed(&writer.records))?;
+    writer.records.write(&folder.join("data/cases"))
+}
+
+fn printed(records: &Records) -> String {
+    let line = |name: &str, cases: u64| format!("{name}: {cases} compared, 0 differ\n");
+    let cases: Vec<u64> = (1..=6).map(|kind| records.of_kind(kind)).collect();
+    let calls: String = CALLS.iter().zip(&cases).map(|(name, &cases)| line(name, cases)).collect();
+    calls + &line("all", cases.iter().sum())
+}
+
+fn add_block_sads(writer: &mut Writer) {
+    let mut random = Random::new(12);
+    let named = [samples::FLAT, samples::BLACK, samples::WHITE, samples::RISE, samples::FALL, samples::SOURCES, 0];
+    for (a, b) in named.iter().flat_map(|&a| named.map(|b| (a, b))) {
+        writer.block_sad(a, b);
+    }
+    for _ in 0..100 {
+        let mut any = || random.below((samples::LEN - 255) as u64) as usize;
+        writer.block_sad(any(), any());
+    }
+}
+
+impl Writer<'_> {
+    fn block(&self, start: usize) -> &[u8; 256] {
+        self.samples[start..start + 256].try_into().unwrap()
+    }
+
+    fn block_sad(&mut self, a: usize, b: usize) {
+        let (one, other) = (self.block(a), self.block(b));
+        let sad = original::block_sad_16x16(other, one);
+        assert_eq!(sad, paper::search::sad(one, other));
+        let mut numbers = [0; 14];
+        (numbers[0], numbers[7], numbers[10]) = (a as u64, b as u64, sad.into());
+        self.records.add(1, 0, &numbers, &[]);
+    }
+
+    fn reference(&self, case: &Case) -> LumaRef<'_> {
+        let plane = &self.samples[case.start..case.start + case.len];
+        let [stride, width, height] = [case.stride, case.size.0, case.size.1].map(|n| n as usize);
+        LumaRef { plane, stride, width, height }
+    }
+
+    // The five calls on one case.
+    fn all(&mut self, case: Case) {
+        self.whole(case);
+        self.any(case);
+        self.diamond(case);
+        self.half(case);
+        self.quarter(case);
+    }
+
+    fn whole(&mut self, case: Case) {
+        let refusal = refusals::of_vector_on_grid(case.place(), case.vector(), 4);
+        let found = (refusal == 0).then(|| {
+            let (col, row) = case.macroblock();
+            let got = original::mb_luma_sad_at_whole_mv(
+                self.reference(&case),
+                col,
+                row,
+                self.block(case.source),
+                case.vector(),
+            );
+            assert_eq!(got, self.cost(&case)(case.vector()), "mb_luma_sad_at_whole_mv");
+            [got.into(), 0, 0, 0]
+        });
+        self.put(2, refusal, case, found);
+    }
+
+    fn any(&mut self, case: Case) {
+        let refusal = refusals::of_vector(case.place(), case.vector());
+        let found = (refusal == 0).then(|| {
+            let (col, row) = case.macroblock();
+            let source = self.block(case.source);
+            let got = original::mb_luma_sad_at_mv(self.reference(&case), col, row, source, case.vector());
+            assert_eq!(got, self.cost(&case)(case.vector()), "mb_luma_sad_at_mv");
+            [got.into(), 0, 0, 0]
+        });
+        self.put(3, refusal, case, found);
+    }
+
+    fn diamond(&mut self, case: Case) {
+        let refusal = refusals::of_diamond(case.place());
+        let found = (refusal == 0).then(|| {
+            let (col, row) = case.macroblock();
+            let source = self.block(case.source);
+            let got = counts::diamond(self.reference(&case), col, row, source, case.vector(), case.limit);
+            let counts::CountedDiamond { answer, sads, rounds } = got;
+            let got = paper::search::Found { mv: answer.mv, sad: answer.sad, sads, rounds };
+            assert_eq!(got, paper::search::diamond(self.cost(&case), case.vector(), case.limit));
+            [got.sad.into(), packed(got.mv), got.sads, got.rounds]
+        });
+        self.put(4, refusal, case, found);
+    }
+
+    fn half(&mut self, case: Case) {
+        let refusal = refusals::of_vector_on_grid(case.place(), case.vector(), 4);
+        let found = (refusal == 0).then(|| {
+            let (col, row) = case.macroblock();
+            let source = self.block(case.source);
+            let got = original::half_pixel_refine_luma(self.reference(&case), col, row, source, case.vector());
+            assert_eq!((got.mv, got.sad), paper::search::refine(self.cost(&case), 2, case.vector()));
+            [got.sad.into(), packed(got.mv), 0, 0]
+        });
+        self.put(5, refusal, case, found);
+    }
+
+    fn quarter(&mut self, case: Case) {
+        let refusal = refusals::of_vector_on_grid(case.place(), case.vector(), 2);
+        let found = (refusal == 0).then(|| {
+            let (col, row) = case.macroblock();
+            let source = self.block(case.source);
+            let got = original::quarter_pixel_refine_luma(self.reference(&case), col, row, source, case.vector());
+            assert_eq!((got.mv, got.sad), paper::search::refine(self.cost(&case), 1, case.vector()));
+            [got.sad.into(), packed(got.mv), 0, 0]
+        });
+        self.put(6, refusal, case, found);
+    }
+
+    // Document 01's SAD at a vector of the case.
+    fn cost(&self, case: &Case) -> impl Fn(Mv) -> u32 {
+        let LumaRef { plane: bytes, stride, width, height } = self.reference(case);
+        let (mb, source) = (case.macroblock(), self.block(case.source));
+        move |mv| paper::search::sad_at(&Plane { bytes, stride, width, height }, mb, source, mv)
+    }
+
+    fn put(&mut self, kind: u64, refusal: u64, case: Case, found: Option<[u64; 4]>) {
+        let Case { start, len, stride, size, mb, source, limit, .. } = case;
+        let vector = packed(case.vector());
+        let given = [start as u64, len as u64, stride, size.0, size.1, mb.0, mb.1, source as u64, vector, limit.into()];
+        let numbers = [&given[..], &found.unwrap_or_default()].concat();
+        self.records.add(kind, refusal, &numbers, &[]);
+    }
+}
+
+impl Case {
+    fn vector(&self) -> Mv {
+        Mv { row: self.mv.0, col: self.mv.1 }
+    }
+
+    // Of an accepted case.
+    fn macroblock(&self) -> (usize, usize) {
+        (self.mb.0 as usize, self.mb.1 as usize)
+    }
+
+    fn place(&self) -> Place {
+        let ((width, height), (x, y)) = (self.size, self.mb);
+        Place { len: self.len as u64, stride: self.stride, width, height, x, y }
+    }
+}
+
+// The bytes that a plane needs.
+fn needed(stride: u64, (width, height): (u64, u64)) -> usize {
+    let bytes = (u128::from(height) - 1) * u128::from(stride) + u128::from(width);
+    usize::try_from(bytes).expect("a plane of the samples")
+}
