@@ -1,0 +1,150 @@
+-- From the checks' outcome to the builder's: what is refused, and what an accepted call answers and leaves. Assumes nothing.
+use mathlib.Core.Path.{_≡_, refl, sym, ap, _∙_}
+use mathlib.Core.Bool.{Bool, true, false, cond}
+use mathlib.Core.List.{List, [], _∷_}
+use Prim.Native.Nat.{ℕ, zero, suc, _+_, _*_, _/_, _≤_, _<_}
+use native.Mathlib.Omega.{arith}
+use lib.ListN.{length, getD}
+use Rattle.laws.specs.Outcome.{Outcome, refused, accepted, Line, firstOf, after}
+use Rattle.prediction.specs.Plane.{bytesNeeded}
+use Rattle.window.specs.declared.Frame.{Frame}
+use Rattle.window.specs.declared.Size.{Size}
+use Rattle.window.specs.declared.Refusal.{Refusal}
+use Rattle.window.specs.declared.Refusal.the-variants.{NoCentre, TooManyFrames, BadSize, OtherSize, PlaneUnfit, ShortOutput, ShortWorking}
+use Rattle.window.specs.declared.Checked.{Checked}
+use Rattle.window.specs.declared.Checked.the-variants as checked
+use Rattle.window.specs.Layout.{half, sideOf, packedSize}
+use Rattle.window.specs.Frames.{frameAt, frameCount, planeOf}
+use Rattle.window.specs.Refusals.{Given, buildLines, refusalOutcome, centreOf, sizeOf, checks, checkedOutcome}
+use Rattle.window.proofs.Built as window
+use Rattle.arnr.specs.declared.Built.{Built}
+use Rattle.arnr.specs.declared.BuildAnswer.{BuildAnswer}
+use Rattle.arnr.specs.declared.BuildAnswer.the-variants.{Done, Refused}
+use Rattle.arnr.specs.Window.{Picture, Scene, Rule, sumAt, totalAt, denoisedAt, arnrRule}
+use Rattle.arnr.specs.Demand.{Held, Demand3}
+use Rattle.arnr.specs.Build.{Request, BuildInput, givenOf, sceneOf, windowOf, cropped, filled, builtOf, samplesOf, outcomeOf, buildOutcome, outputAfter, workingAfter, BuildBy}
+use Rattle.arnr.specs.Internal.{Fits, Whole, Frames, Lent, Legal, Made, numbersOf}
+use Rattle.arnr.proofs.Blends.{window-fair, window-byte}
+use Rattle.arnr.proofs.Demands.{demand-3}
+
+-- an outcome with another answer
+retag : {A B : Type 0} → B → Outcome A → Outcome B
+retag b (refused n v) = refused n v
+retag b (accepted a) = accepted b
+
+retag-lines : {A B : Type 0} (ls : List Line) (a : A) (b : B) → retag b (firstOf ls a) ≡ firstOf ls b
+unfolding retag
+retag-lines [] a b = refl
+retag-lines {A} {B} (l ∷ ls) a b = by (l .test) (retag-lines ls a b)
+  where
+    by : (t : Bool) → retag b (firstOf ls a) ≡ firstOf ls b
+        → retag b (cond t (refused (l .number) (l .values)) (firstOf ls a)) ≡ cond t (refused (l .number) (l .values)) (firstOf ls b)
+    by true e = refl
+    by false e = e
+
+retag-refusal : (r : Refusal) (b : Built) → retag b (refusalOutcome {A = Size} r) ≡ refusalOutcome {A = Built} r
+unfolding retag
+retag-refusal NoCentre b = refl
+retag-refusal TooManyFrames b = refl
+retag-refusal (BadSize s) b = refl
+retag-refusal (OtherSize s c) b = refl
+retag-refusal (PlaneUnfit g) b = refl
+retag-refusal ShortOutput b = refl
+retag-refusal ShortWorking b = refl
+
+-- on a refusal a slice is as before
+after-refusal : (r : Refusal) (old new : List ℕ) → old ≡ after (refusalOutcome {A = Built} r) old new
+after-refusal NoCentre old new = refl
+after-refusal TooManyFrames old new = refl
+after-refusal (BadSize s) old new = refl
+after-refusal (OtherSize s c) old new = refl
+after-refusal (PlaneUnfit g) old new = refl
+after-refusal ShortOutput old new = refl
+after-refusal ShortWorking old new = refl
+
+never : (r : Refusal) (a : Built) → Refused r ≡ Done a → ⊥
+never r a e = let z : _≡_ {A = ℕ} 0 1 = cc in omega arith
+
+module _ (b : BuildInput) where
+  refused-outcome : (r : Refusal) → refusalOutcome r ≡ checks (givenOf b) → refusalOutcome r ≡ outcomeOf arnrRule b
+  unfolding checks outcomeOf
+  refused-outcome r e =
+      sym (retag-refusal r (builtOf arnrRule (b .request))) ∙ ap (retag (builtOf arnrRule (b .request))) e
+      ∙ retag-lines (buildLines (givenOf b)) _ (builtOf arnrRule (b .request))
+
+  pub refused-is : (c : Checked) (r : Refusal) → checkedOutcome c ≡ checks (givenOf b) → c ≡ checked.Refused r → BuildBy arnrRule b (Refused r) (b .lent)
+  unfolding outputAfter workingAfter
+  refused-is c r e k =
+      let o = refused-outcome r (sym (ap checkedOutcome k) ∙ e) in
+      record {
+        answer = o;
+        output = rw (sym o) (after-refusal r (b .lent .output) _);
+        sums = rw (sym o) (after-refusal r (b .lent .sums) _);
+        weights = rw (sym o) (after-refusal r (b .lent .weights) _);
+        demand3 = λ a p t. absurd (never r a p);
+      }
+
+  module _ (c : Checked) (s : Size) (e : checkedOutcome c ≡ checks (givenOf b)) (k : c ≡ checked.Legal s) where
+    facts : window.Built (givenOf b) s
+    facts = window.built (givenOf b) s (sym e ∙ ap checkedOutcome k)
+
+    plane : (g p : ℕ) → g < frameCount (b .request .numbers) → p < 3 → Fits (b .request .bytes) (numbersOf (frameAt (b .request .numbers) g) p)
+    plane g zero l m =
+        let f = facts in
+        record {
+          fits = f .fits g zero l m;
+          wide = (rw (f .width g l) (f .wide), rw (f .width g l) (f .narrow));
+          high = (rw (f .height g l) (f .high), rw (f .height g l) (f .low));
+        }
+    plane g (suc p) l m =
+        let f = facts in
+        let w = f .width g l in
+        let h = f .height g l in
+        record { fits = f .fits g (suc p) l m; wide = omega (arith, w, f .wide, f .narrow); high = omega (arith, h, f .high, f .low) }
+
+    pub legal : Legal (b .request) (s .width) (s .height)
+    legal =
+        let f = facts in
+        record {
+          inside = f .inside;
+          few = f .few;
+          frames = record { whole = λ g l. record { fits = λ p m. plane g p l m }; size = λ g l. (f .width g l, f .height g l) };
+          wide = (f .wide, f .narrow);
+          high = (f .high, f .low);
+        }
+
+    pub lent : Lent (packedSize (s .width) (s .height)) (b .lent .output) (b .lent .sums) (b .lent .weights)
+    lent = let f = facts in record { in-out = f .output; in-sums = f .sums; in-weights = f .weights }
+
+    done-outcome : accepted (builtOf arnrRule (b .request)) ≡ outcomeOf arnrRule b
+    unfolding checks outcomeOf retag
+    done-outcome =
+        ap (retag (builtOf arnrRule (b .request))) (sym (ap checkedOutcome k) ∙ e) ∙ retag-lines (buildLines (givenOf b)) _ (builtOf arnrRule (b .request))
+
+    same-built : (n : ℕ) → n ≡ builtOf arnrRule (b .request) .accepted → _≡_ {A = Built} (record { width = s .width; height = s .height; accepted = n }) (builtOf arnrRule (b .request))
+    unfolding builtOf sceneOf
+    same-built n p =
+        let f = facts in
+        ap (λ (t : Size). record { width = t .width; height = t .height; accepted = n }) (f .size)
+        ∙ ap (λ (t : ℕ). record { width = centreOf (givenOf b) .width; height = centreOf (givenOf b) .height; accepted = t }) p
+
+    module _ (n : ℕ) (held : Held) (made : Made (b .request) (b .lent) n held) (byte : (i : ℕ) → getD (b .request .bytes) i 0 < 256) where
+      demand : cropped (b .request) ≡ false → Demand3 (arnrRule (sceneOf (b .request))) (windowOf (b .request)) held
+      unfolding samplesOf windowOf
+      demand t =
+          demand-3 (arnrRule (sceneOf (b .request))) (windowOf (b .request)) (window-fair (b .request) (s .width) (s .height) legal byte) (window-byte (b .request) (s .width) (s .height) legal byte)
+          (b .lent) held (rw t at (made .output)) (rw t at (made .sums)) (rw t at (made .weights))
+
+      pub done-is : BuildBy arnrRule b (Done (record { width = s .width; height = s .height; accepted = n })) held
+      unfolding outputAfter workingAfter
+      done-is =
+          let o = done-outcome in
+          record {
+            answer = ap accepted (same-built n (made .accepted)) ∙ o;
+            output = rw (sym o) (made .output);
+            sums = rw (sym o) (made .sums);
+            weights = rw (sym o) (made .weights);
+            demand3 = λ a p t. demand t;
+          }
+
+-- t

@@ -1,0 +1,130 @@
+-- What is made of a frame depends on the centre only by its samples in the planes, and on nothing but the frame, the centre, the size and the strength.
+-- This joins what the code reads, the packed copy of the centre and the lent curve, to the definitions. Assumes nothing.
+use mathlib.Core.Path.{_≡_, refl, sym, ap, _∙_, fun-ext}
+use mathlib.Core.Bool.{Bool}
+use mathlib.Core.List.{List}
+use Prim.Native.Nat.{ℕ, zero, suc, _+_, _*_, _/_, _^_, _≤_, _<_, min}
+use native.Mathlib.Nat.{mul-le-mul, pow-le-pow-right}
+use native.Mathlib.Omega.{arith}
+use native.Mathlib.Decide.{decLt}
+use lib.IntN.{pos}
+use lib.ListN.{length, getD, List·getD-eq-default}
+use Rattle.laws.specs.Sums.{sumBelow, sum-same}
+use Rattle.laws.specs.Tabulate.{tabulate, length-tabulate, getD-tabulate}
+use Rattle.prediction.specs.Samples.{distance}
+use Rattle.prediction.specs.Plane.{Samples}
+use Rattle.weights.specs.Weights.{scale, weightOf, weightRead}
+use Rattle.weights.proofs.Weights.{zero-weight, read-none, read-some, read-most}
+use Rattle.window.specs.Layout.{sideOf}
+use Rattle.arnr.specs.declared.Block.{Block}
+use Rattle.arnr.specs.declared.Shift.{Shift}
+use Rattle.arnr.specs.Grid.{gridBlock, gridSide, unitOf}
+use Rattle.arnr.specs.Search.{sadOf, displacedBy, blockSearch, shiftIn}
+use Rattle.arnr.specs.Window.{Picture, Scene, Rule, gate, centreAt, shareOf, acceptedIn, costOf, shiftOf, sadAccepted, blockAccepted, displacedAt, arnrRule}
+use Rattle.arnr.specs.Internal.{curveRule, curveShare, curveTerm}
+use Rattle.arnr.proofs.Cover.{grid-lies, within-grid}
+
+-- the SAD looks at the rectangle only
+sad-same : (a b m : Samples) (r : Block) → ((x y : ℕ) → x < r .x + r .columns → y < r .y + r .rows → a (pos x) (pos y) ≡ b (pos x) (pos y)) → sadOf a m r ≡ sadOf b m r
+unfolding sadOf
+sad-same a b m r h =
+    sum-same _ _ (r .rows) (λ j hj. sum-same _ _ (r .columns) (λ i hi.
+    ap (λ (t : ℕ). distance t (m (pos (r .x + i)) (pos (r .y + j)))) (h (r .x + i) (r .y + j) (omega arith) (omega arith))))
+
+-- the block that covers a sample lies in the grid
+in-grid : (k n x : ℕ) → x < sideOf k n → 16 * (x / unitOf k) < n
+in-grid k n x h = let g = within-grid k n x h in omega arith
+
+-- two scenes of one size whose centres agree at every sample of every plane
+pub record Agree (a b : Scene) : Type 0 where
+  pub width : a .width ≡ b .width
+  pub height : a .height ≡ b .height
+  pub centre : (k x y : ℕ) → k < 3 → x < sideOf k (a .width) → y < sideOf k (a .height) → centreAt a k x y ≡ centreAt b k x y
+
+module _ (a b : Scene) (s : Agree a b) (f : Picture) where
+  grid-same : (i j : ℕ) → gridBlock (a .width) (a .height) i j ≡ gridBlock (b .width) (b .height) i j
+  grid-same i j = ap (λ (t : ℕ). gridBlock t (a .height) i j) (s .width) ∙ ap (λ (t : ℕ). gridBlock (b .width) t i j) (s .height)
+
+  cost-same : (i j : ℕ) → 16 * i < a .height → 16 * j < a .width → costOf a f i j ≡ costOf b f i j
+  unfolding costOf
+  cost-same i j hi hj =
+      let l = grid-lies (a .width) (a .height) i j hi hj in
+      fun-ext (λ d.
+      sad-same (a .centre 0) (b .centre 0) (displacedBy d (f 0)) (gridBlock (a .width) (a .height) i j)
+      (λ x y hx hy. s .centre 0 x y (omega arith) (omega (arith, l .wide)) (omega (arith, l .high)))
+      ∙ ap (λ (r : Block). sadOf (b .centre 0) (displacedBy d (f 0)) r) (grid-same i j))
+
+  shift-same : (i j : ℕ) → 16 * i < a .height → 16 * j < a .width → shiftOf a f i j ≡ shiftOf b f i j
+  unfolding shiftOf
+  shift-same i j hi hj = ap blockSearch (cost-same i j hi hj)
+
+  pub accepted-same : (i j : ℕ) → 16 * i < a .height → 16 * j < a .width → blockAccepted a f i j ≡ blockAccepted b f i j
+  unfolding blockAccepted
+  accepted-same i j hi hj =
+      ap (λ (c : Shift → ℕ). sadAccepted (gridBlock (a .width) (a .height) i j) (c (shiftOf a f i j))) (cost-same i j hi hj)
+      ∙ ap (λ (d : Shift). sadAccepted (gridBlock (a .width) (a .height) i j) (costOf b f i j d)) (shift-same i j hi hj)
+      ∙ ap (λ (r : Block). sadAccepted r (costOf b f i j (shiftOf b f i j))) (grid-same i j)
+
+  module _ (k x y : ℕ) (hk : k < 3) (hx : x < sideOf k (a .width)) (hy : y < sideOf k (a .height)) where
+    pub displaced-same : displacedAt a f k x y ≡ displacedAt b f k x y
+    unfolding displacedAt
+    displaced-same =
+        ap (λ (d : Shift). displacedBy (shiftIn k d) (f k) (pos x) (pos y))
+        (shift-same (y / unitOf k) (x / unitOf k) (in-grid k (a .height) y hy) (in-grid k (a .width) x hx))
+
+    by-weight : (u v : ℕ → ℕ) → ((e : ℕ) → u e ≡ v e)
+        → gate (blockAccepted a f (y / unitOf k) (x / unitOf k)) (u (distance (displacedAt a f k x y) (centreAt a k x y)))
+        ≡ gate (blockAccepted b f (y / unitOf k) (x / unitOf k)) (v (distance (displacedAt b f k x y) (centreAt b k x y)))
+    by-weight u v e =
+        ap (λ (t : Bool). gate t (u (distance (displacedAt a f k x y) (centreAt a k x y)))) (accepted-same (y / unitOf k) (x / unitOf k) (in-grid k (a .height) y hy) (in-grid k (a .width) x hx))
+        ∙ ap (gate (blockAccepted b f (y / unitOf k) (x / unitOf k)))
+        (e (distance (displacedAt a f k x y) (centreAt a k x y))
+        ∙ ap (λ (t : ℕ). v (distance t (centreAt a k x y))) displaced-same
+        ∙ ap (λ (t : ℕ). v (distance (displacedAt b f k x y) t)) (s .centre k x y hk hx hy))
+
+    -- a share depends on the frame, the centre and the strength only
+    pub share-alone : a .strength ≡ b .strength → shareOf (arnrRule a) a f k x y ≡ shareOf (arnrRule b) b f k x y
+    unfolding shareOf arnrRule
+    share-alone e = by-weight (weightRead (a .strength)) (weightRead (b .strength)) (λ d. ap (λ (t : ℕ). weightRead t d) e)
+
+    pub share-joined : (curve : List ℕ) → ((e : ℕ) → getD curve e 0 ≡ weightRead (b .strength) e) → curveShare curve a f k x y ≡ shareOf (arnrRule b) b f k x y
+    unfolding curveShare shareOf curveRule arnrRule
+    share-joined curve e = by-weight (λ d. getD curve d 0) (weightRead (b .strength)) e
+
+    pub term-joined : (curve : List ℕ) → ((e : ℕ) → getD curve e 0 ≡ weightRead (b .strength) e)
+        → curveTerm curve a f k x y ≡ shareOf (arnrRule b) b f k x y * arnrRule b .sample f k x y
+    unfolding curveTerm arnrRule
+    term-joined curve e =
+        ap (λ (t : ℕ). t * displacedAt a f k x y) (share-joined curve e)
+        ∙ ap (λ (t : ℕ). shareOf (arnrRule b) b f k x y * t) displaced-same
+
+  pub count-joined : (curve : List ℕ) → acceptedIn (curveRule curve a) a f ≡ acceptedIn (arnrRule b) b f
+  unfolding acceptedIn curveRule arnrRule
+  count-joined curve =
+      sum-same _ _ (gridSide (a .height)) (λ i hi. sum-same _ _ (gridSide (a .width)) (λ j hj.
+      ap (λ (t : Bool). gate t 1) (accepted-same i j (omega arith) (omega arith))))
+      ∙ ap (λ (n : ℕ). sumBelow (λ i. sumBelow (λ j. gate (blockAccepted b f i j) 1) (gridSide n)) (gridSide (a .height))) (s .width)
+      ∙ ap (λ (n : ℕ). sumBelow (λ i. sumBelow (λ j. gate (blockAccepted b f i j) 1) (gridSide (b .width))) (gridSide n)) (s .height)
+
+-- the lent curve is the strength's at every difference: from 256 on every weight is 0
+far : (strength e : ℕ) → 256 ≤ e → weightRead strength e ≡ 0
+far zero e h = read-none e
+far (suc s) e h =
+    let few : 2 ^ min (suc s) 6 ≤ 64 = pow-le-pow-right {n = 2} (omega arith) {j = 6} (omega arith) in
+    let square : 65536 ≤ e * e = mul-le-mul h h in
+    let small : 15 * scale (min (suc s) 6) < e * e = unfold scale in omega arith in
+    read-some (suc s) e (omega arith) ∙ zero-weight (min (suc s) 6) e .1 small
+
+pub curve-at : (strength e : ℕ) → getD (tabulate 256 (weightRead strength)) e 0 ≡ weightRead strength e
+curve-at strength e = by (decLt e 256)
+  where
+    by : Dec (e < 256) → getD (tabulate 256 (weightRead strength)) e 0 ≡ weightRead strength e
+    by (yes l) = getD-tabulate 256 (weightRead strength) e 0 l
+    by (no g) =
+        List·getD-eq-default (tabulate 256 (weightRead strength)) 0 (let n = length-tabulate 256 (weightRead strength) in omega arith)
+        ∙ sym (far strength e (omega arith))
+
+pub curve-light : (strength e : ℕ) → getD (tabulate 256 (weightRead strength)) e 0 ≤ 16
+curve-light strength e = rw (curve-at strength e) (read-most strength e)
+
+-- t

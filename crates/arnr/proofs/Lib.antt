@@ -1,0 +1,17 @@
+pub mod Planes
+pub mod Gates
+pub mod Raise
+pub mod Place
+pub mod Searches
+pub mod Cover
+pub mod Spreads
+pub mod Pictures
+pub mod Others
+pub mod Fronts
+pub mod Packs
+pub mod Join
+pub mod Demands
+pub mod Blends
+pub mod Makes
+pub mod Answers
+pub mod Claims

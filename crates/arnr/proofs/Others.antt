@@ -1,0 +1,97 @@
+-- The other frames, as a list: how a loop over the frame list that passes the centre over comes to it. Assumes nothing.
+use mathlib.Core.Path.{_≡_, refl, sym, ap, _∙_}
+use mathlib.Core.Bool.{Bool, true, false, cond}
+use mathlib.Core.List.{List, [], _∷_, _++_, map}
+use Prim.Native.Nat.{ℕ, zero, suc, _+_, _*_, _≤_, _<_}
+use native.Mathlib.Nat.{mul-le-mul-right, mul-comm, le-trans}
+use native.Mathlib.Numerals.{add-one}
+use native.Mathlib.Omega.{arith}
+use native.Mathlib.Decide.{ℕ-discrete}
+use lib.Dec.{eqb}
+use lib.ListN.{length, length-append, length-map}
+use borrow.Author.Tests.{eq-eqb, ne-eqb}
+use Rattle.laws.specs.Sums.{sumOver, sum-over-append, sum-over-most}
+use Rattle.weights.proofs.Bound.{Each}
+use Rattle.window.specs.Frames.{frameAt}
+use Rattle.arnr.specs.Window.{Picture}
+use Rattle.arnr.specs.Pictures.{pictureOf, allBut, othersOf}
+
+sum-map : {A B : Type 0} (f : B → ℕ) (p : A → B) (xs : List A) → sumOver f (map p xs) ≡ sumOver (λ x. f (p x)) xs
+unfolding sumOver
+sum-map f p [] = refl
+sum-map f p (x ∷ xs) = ap (λ (t : ℕ). f (p x) + t) (sum-map f p xs)
+
+one : (f : ℕ → ℕ) (n : ℕ) → sumOver f (n ∷ []) ≡ f n
+unfolding sumOver
+one f n = omega arith
+
+but-more : (f : ℕ → ℕ) (c n : ℕ) → (n ≡ c → ⊥) → sumOver f (allBut c (n + 1)) ≡ sumOver f (allBut c n) + f n
+unfolding allBut
+but-more f c n g = rw add-one (simp (ne-eqb n c g) (sum-over-append f (allBut c n) (n ∷ []) ∙ ap (λ (t : ℕ). sumOver f (allBut c n) + t) (one f n)))
+
+but-centre : (f : ℕ → ℕ) (c n : ℕ) → n ≡ c → sumOver f (allBut c (n + 1)) ≡ sumOver f (allBut c n)
+unfolding allBut
+but-centre f c n e = rw add-one (simp (eq-eqb n c e))
+
+-- there is one fewer than all
+but-count : (c n : ℕ) → c < n → length (allBut c n) + 1 ≡ n
+unfolding allBut
+but-count c zero h = absurd (omega arith)
+but-count c (suc n) h = by (but-count c n) (ℕ-discrete n c)
+  where
+    all : (m : ℕ) → m ≤ c → length (allBut c m) ≡ m
+    all zero l = refl
+    all (suc m) l = simp (ne-eqb m c (omega arith)) (length-append (allBut c m) (m ∷ []) ∙ let a = all m (omega arith) in omega arith)
+
+    by : (c < n → length (allBut c n) + 1 ≡ n) → Dec (n ≡ c) → length (allBut c (suc n)) + 1 ≡ suc n
+    by ih (yes e) = simp (eq-eqb n c e) (let a = all n (omega arith) in omega arith)
+    by ih (no g) = simp (ne-eqb n c g) (let a = ih (omega arith) in let b = length-append (allBut c n) (n ∷ []) in omega arith)
+
+but-most : (c n : ℕ) → length (allBut c n) ≤ n
+unfolding allBut
+but-most c zero = omega arith
+but-most c (suc n) = by (eqb n c) (but-most c n)
+  where
+    by : (t : Bool) → length (allBut c n) ≤ n → length (cond t (allBut c n) (allBut c n ++ (n ∷ []))) ≤ suc n
+    by true l = omega arith
+    by false l = omega (arith, length-append (allBut c n) (n ∷ []))
+
+module _ (bytes numbers : List ℕ) (c : ℕ) where
+  pub others-none : (f : Picture → ℕ) → sumOver f (othersOf bytes numbers c 0) ≡ 0
+  unfolding othersOf allBut sumOver
+  others-none f = refl
+
+  pub others-more : (f : Picture → ℕ) (n : ℕ) → (n ≡ c → ⊥)
+      → sumOver f (othersOf bytes numbers c (n + 1)) ≡ sumOver f (othersOf bytes numbers c n) + f (pictureOf bytes (frameAt numbers n))
+  unfolding othersOf
+  others-more f n g =
+      sum-map f _ (allBut c (n + 1)) ∙ but-more _ c n g ∙ ap (λ (t : ℕ). t + f (pictureOf bytes (frameAt numbers n))) (sym (sum-map f _ (allBut c n)))
+
+  pub others-centre : (f : Picture → ℕ) (n : ℕ) → n ≡ c → sumOver f (othersOf bytes numbers c (n + 1)) ≡ sumOver f (othersOf bytes numbers c n)
+  unfolding othersOf
+  others-centre f n e = sum-map f _ (allBut c (n + 1)) ∙ but-centre _ c n e ∙ sym (sum-map f _ (allBut c n))
+
+  pub others-count : (n : ℕ) → c < n → length (othersOf bytes numbers c n) + 1 ≡ n
+  unfolding othersOf
+  others-count n h = let e = length-map (allBut c n) (λ g. pictureOf bytes (frameAt numbers g)) in let a = but-count c n h in omega arith
+
+  -- what holds of every frame's picture holds of each
+  pub others-each : (P : Picture → Type 0) (n : ℕ) → ((g : ℕ) → P (pictureOf bytes (frameAt numbers g))) → Each P (othersOf bytes numbers c n)
+  unfolding othersOf
+  others-each P n h = all (allBut c n)
+    where
+      all : (gs : List ℕ) → Each P (map (λ g. pictureOf bytes (frameAt numbers g)) gs)
+      all [] = tt
+      all (g ∷ gs) = (h g, all gs)
+
+  -- a sum over them, where none adds more than m
+  pub others-most : (f : Picture → ℕ) (m n : ℕ) → ((g : ℕ) → f (pictureOf bytes (frameAt numbers g)) ≤ m) → sumOver f (othersOf bytes numbers c n) ≤ n * m
+  unfolding othersOf
+  others-most f m n h =
+      rw (sum-map f (λ g. pictureOf bytes (frameAt numbers g)) (allBut c n))
+      (let a = sum-over-most (λ g. f (pictureOf bytes (frameAt numbers g))) (allBut c n) m h in
+      let b = mul-le-mul-right m (but-most c n) in
+      let e = mul-comm m (length (allBut c n)) in
+      omega arith)
+
+-- t

@@ -1,0 +1,7 @@
+pub mod Grid
+pub mod Search
+pub mod Window
+pub mod Pictures
+pub mod Demand
+pub mod Build
+pub mod Internal

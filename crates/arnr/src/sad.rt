@@ -1,0 +1,232 @@
+// Displaced samples, and the sum of absolute differences (SAD) of a block.
+use crate::Block;
+use crate::PlaneNumbers;
+use crate::Shift;
+use prediction::inverse_transform;
+ghost use mathlib.Core.Path.{_≡_};
+ghost use Prim.Native.Nat.{ℕ, _+_, _-_, _*_, _<_, _≤_};
+ghost use lib.IntN.{pos, _+ℤ_};
+ghost use lib.ListN.{length, getD};
+ghost use Rattle.laws.specs.Signed.{above, below};
+ghost use Rattle.laws.specs.Sums.{sumBelow};
+ghost use Rattle.prediction.specs.Samples.{distance};
+ghost use Rattle.prediction.specs.Plane.{sampleAt, nearestIn};
+ghost use Rattle.arnr.specs.Search.{displacedBy};
+ghost use Rattle.arnr.specs.Internal.{Fits, Short, Span, Lies, planeIn, packedPlane, rowDistance, lumaCost};
+
+// The coordinate nearest to x + d among 0 .. n - 1.
+fn edge(x: usize, d: i32, n: usize) -> usize
+    requires { ⌜ (x < n) × (n ≤ 16383) × (above d ≤ 15) × (below d ≤ 15) ⌝ }
+    ensures { λ r. ⌜ r ≡ nearestIn n (pos x +ℤ d) ⌝ }
+{
+    let at = (x as i32) + d;
+    if at < 0 {
+        return 0;
+    }
+    let s = at as usize;
+    if s < n { s } else { n - 1 }
+}
+
+// A displaced sample of a plane.
+fn displaced(bytes: &[u8], p: PlaneNumbers, x: usize, y: usize, d: Shift) -> u8
+    requires { ⌜ Fits (now bytes) p ⌝ }
+    requires { ⌜ (x < p .columns) × (y < p .rows) ⌝ }
+    requires { ⌜ Short d ⌝ }
+    ensures { λ r. ⌜ r ≡ displacedBy d (sampleAt (planeIn (now (bytes .entry)) p)) (pos x) (pos y) ⌝ }
+{
+    let cx = edge(x, d.dx, p.columns);
+    let cy = edge(y, d.dy, p.rows);
+    let at = p.start + cy * p.stride + cx;
+    bytes[at]
+}
+
+// A row of n displaced samples, from (x, y) on.
+pub(crate) fn displaced_row(
+    bytes: &[u8],
+    p: PlaneNumbers,
+    x: usize,
+    y: usize,
+    n: usize,
+    d: Shift,
+) -> [u8; 16]
+    requires { ⌜ Fits (now bytes) p ⌝ }
+    requires { ⌜ Span (p .columns) (p .rows) x y n ⌝ }
+    requires { ⌜ Short d ⌝ }
+    ensures { λ r. ⌜ ((k : ℕ) → k < n → getD r k 0 ≡ displacedBy d (sampleAt (planeIn (now (bytes .entry)) p)) (pos (x + k)) (pos y)) ⌝ }
+{
+    let mut row = [0u8; 16];
+    let mut k = 0;
+    while k < n {
+        row[k] = displaced(bytes, p, x + k, y, d);
+        k += 1;
+    }
+    row
+}
+
+// The absolute difference of two samples.
+fn difference(a: u8, b: u8) -> u32
+    ensures { λ r. ⌜ (r ≡ distance a b) × (r ≤ 255) ⌝ }
+{
+    inverse_transform::abs_diff(a, b) as u32
+}
+
+// The SAD of two rows.
+fn row_sad(a: &[u8], b: &[u8]) -> u32
+    requires { ⌜ (length (now b) ≡ length (now a)) × (length (now a) ≤ 16) ⌝ }
+    ensures { λ r. ⌜ (r ≡ sumBelow (rowDistance (now (a .entry)) (now (b .entry))) (length (now (a .entry)))) × (r ≤ 4080) ⌝ }
+{
+    let mut sum: u32 = 0;
+    let mut k = 0;
+    while k < a.len() {
+        sum += difference(a[k], b[k]);
+        k += 1;
+    }
+    sum
+}
+
+// The SAD of two rows of 16.
+fn sad16(a: &[u8], b: &[u8]) -> u32
+    requires { ⌜ (length (now a) ≡ 16) × (length (now b) ≡ 16) ⌝ }
+    ensures { λ r. ⌜ (r ≡ sumBelow (rowDistance (now (a .entry)) (now (b .entry))) 16) × (r ≤ 4080) ⌝ }
+{
+    let mut sum: u32 = 0;
+    let mut k = 0;
+    while k < 16 {
+        sum += difference(a[k], b[k]);
+        k += 1;
+    }
+    sum
+}
+
+// The SAD of one row of a block, wherever its displaced samples lie.
+fn span_sad(
+    bytes: &[u8],
+    p: PlaneNumbers,
+    x: usize,
+    y: usize,
+    n: usize,
+    d: Shift,
+    centre: &[u8],
+) -> u32
+    requires { ⌜ Fits (now bytes) p ⌝ }
+    requires { ⌜ Span (p .columns) (p .rows) x y n ⌝ }
+    requires { ⌜ Short d ⌝ }
+    requires { ⌜ p .columns * p .rows ≤ length (now centre) ⌝ }
+    ensures { λ r. ⌜ (r ≡ sumBelow (λ i. distance (sampleAt (packedPlane 0 (p .columns) (p .rows) (now (centre .entry))) (pos (x + i)) (pos y))
+        (displacedBy d (sampleAt (planeIn (now (bytes .entry)) p)) (pos (x + i)) (pos y))) n) × (r ≤ 4080) ⌝ }
+{
+    let row = displaced_row(bytes, p, x, y, n, d);
+    let from = y * p.columns + x;
+    let to = from + n;
+    row_sad(&centre[from..to], &row[..n])
+}
+
+// The SAD of a displaced block, wherever it lies.
+fn edge_sad(bytes: &[u8], p: PlaneNumbers, b: Block, d: Shift, centre: &[u8]) -> u32
+    requires { ⌜ Fits (now bytes) p ⌝ }
+    requires { ⌜ Lies b (p .columns) (p .rows) ⌝ }
+    requires { ⌜ Short d ⌝ }
+    requires { ⌜ p .columns * p .rows ≤ length (now centre) ⌝ }
+    ensures { λ r. ⌜ r ≡ lumaCost (now (centre .entry)) (now (bytes .entry)) p b d ⌝ }
+{
+    let x = b.x;
+    let y = b.y;
+    let n = b.columns;
+    let high = b.rows;
+    let mut sum: u32 = 0;
+    let mut r = 0;
+    while r < high {
+        sum += span_sad(bytes, p, x, y + r, n, d, centre);
+        r += 1;
+    }
+    sum
+}
+
+// The SAD of two blocks of 16 by 16.
+fn inner_sad(a: &[u8], at: usize, stride: usize, b: &[u8], from: usize, across: usize) -> u32
+    requires { ⌜ (at + 15 * stride + 16 ≤ length (now a)) × (from + 15 * across + 16 ≤ length (now b)) ⌝ }
+    ensures { λ r. ⌜ r ≡ sumBelow (λ y. sumBelow (λ k. distance (getD (now (a .entry)) (at + y * stride + k) 0)
+        (getD (now (b .entry)) (from + y * across + k) 0)) 16) 16 ⌝ }
+{
+    let mut sum: u32 = 0;
+    let mut r = 0;
+    while r < 16 {
+        let i = at + r * stride;
+        let j = from + r * across;
+        sum += sad16(&a[i..i + 16], &b[j..j + 16]);
+        r += 1;
+    }
+    sum
+}
+
+// The same, by the places of the blocks in their planes.
+fn placed_sad(
+    bytes: &[u8],
+    start: usize,
+    stride: usize,
+    left: usize,
+    top: usize,
+    centre: &[u8],
+    columns: usize,
+    x: usize,
+    y: usize,
+) -> u32
+    requires { ⌜ (start + (top + 15) * stride + left + 15 < length (now bytes)) × ((y + 15) * columns + x + 15 < length (now centre)) ⌝ }
+    ensures { λ r. ⌜ r ≡ sumBelow (λ j. sumBelow (λ k. distance (getD (now (centre .entry)) ((y + j) * columns + (x + k)) 0) (getD (now (bytes .entry))
+        (start + (top + j) * stride + (left + k)) 0)) 16) 16 ⌝ }
+{
+    inner_sad(
+        centre,
+        y * columns + x,
+        columns,
+        bytes,
+        start + top * stride + left,
+        stride,
+    )
+}
+
+// The SAD of a block of 16 by 16: in bounds, row by row of 16; else by samples.
+fn square_sad(bytes: &[u8], p: PlaneNumbers, b: Block, d: Shift, centre: &[u8]) -> u32
+    requires { ⌜ Fits (now bytes) p ⌝ }
+    requires { ⌜ (b .columns ≡ 16) × (b .rows ≡ 16) × Lies b (p .columns) (p .rows) ⌝ }
+    requires { ⌜ Short d ⌝ }
+    requires { ⌜ p .columns * p .rows ≤ length (now centre) ⌝ }
+    ensures { λ r. ⌜ r ≡ lumaCost (now (centre .entry)) (now (bytes .entry)) p b d ⌝ }
+{
+    let left = edge(b.x, d.dx, p.columns);
+    let right = edge(b.x + 15, d.dx, p.columns);
+    let top = edge(b.y, d.dy, p.rows);
+    let bottom = edge(b.y + 15, d.dy, p.rows);
+    if left + 15 == right {
+        if top + 15 == bottom {
+            return placed_sad(
+                bytes,
+                p.start,
+                p.stride,
+                left,
+                top,
+                centre,
+                p.columns,
+                b.x,
+                b.y,
+            );
+        }
+    }
+    edge_sad(bytes, p, b, d, centre)
+}
+
+// The SAD of a block of the centre's plane, which stands packed, and the displaced block of another frame's.
+pub(crate) fn block_sad(bytes: &[u8], p: PlaneNumbers, b: Block, d: Shift, centre: &[u8]) -> u32
+    requires { ⌜ Fits (now bytes) p ⌝ }
+    requires { ⌜ Lies b (p .columns) (p .rows) ⌝ }
+    requires { ⌜ Short d ⌝ }
+    requires { ⌜ p .columns * p .rows ≤ length (now centre) ⌝ }
+    ensures { λ r. ⌜ r ≡ lumaCost (now (centre .entry)) (now (bytes .entry)) p b d ⌝ }
+{
+    if b.columns == 16 {
+        if b.rows == 16 {
+            return square_sad(bytes, p, b, d, centre);
+        }
+    }
+    edge_sad(bytes, p, b, d, centre)
+}
