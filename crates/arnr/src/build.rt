@@ -125,8 +125,7 @@ fn blend(
     requires { ⌜ Shows w h (centreAt (sceneOf (asked (now bytes) (now numbers) centre strength))) (now output) ⌝ }
     ensures { λ r. ⌜ Blended (asked (now (bytes .entry)) (now (numbers .entry)) centre strength) w h r (record {
       output = now (output .exit);
-      sums = now
-          (sums .exit);
+      sums = now (sums .exit);
       weights = now (weights .exit);
     }) ⌝ }
 {
@@ -166,14 +165,12 @@ pub(crate) fn make(
     requires { ⌜ Lent (packedSize w h) (now output) (now sums) (now weights) ⌝ }
     ensures { λ r. ⌜ Made (asked (now (bytes .entry)) (now (numbers .entry)) centre strength) (record {
       output = now (output .entry);
-      sums = now
-          (sums .entry);
+      sums = now (sums .entry);
       weights = now (weights .entry);
     }) r (record {
       output = now (output .exit);
       sums = now (sums .exit);
-      weights = now
-          (weights .exit);
+      weights = now (weights .exit);
     }) ⌝ }
 {
     let n = samples_in(w, h);

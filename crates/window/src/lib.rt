@@ -44,7 +44,7 @@ pub enum Checked {
 }
 
 // The numbers of one frame.
-const NUMBERS_PER_FRAME: usize = 7;
+pub const NUMBERS_PER_FRAME: usize = 7;
 
 // The frame count: numbers left over are not read.
 pub fn frame_count(numbers: &[u32]) -> usize

@@ -1,0 +1,59 @@
+-- Refusals 1 and 2 look at the number of numbers only: what is promised where one of the two applies. Assumes nothing.
+use mathlib.Core.Path.{_≡_, refl, sym, ap, _∙_}
+use mathlib.Core.Bool.{true, false}
+use mathlib.Core.List.{List, []}
+use Prim.Native.Nat.{ℕ, _*_, _/_, _≤_, _<_}
+use native.Mathlib.Omega.{arith}
+use borrow.Author.Tests.{le-leb, lt-leb, lt-ltb}
+use lib.Dec.{leb, ltb}
+use lib.ListN.{length}
+use Rattle.laws.specs.Outcome.{Outcome, refused, accepted, after}
+use Rattle.window.specs.declared.Refusal.{Refusal}
+use Rattle.window.specs.declared.Refusal.the-variants.{NoCentre, TooManyFrames}
+use Rattle.window.specs.Frames.{numbersPerFrame, frameCount}
+use Rattle.window.specs.Refusals.{refusalOutcome}
+use Rattle.arnr.specs.declared.Built.{Built}
+use Rattle.arnr.specs.declared.BuildAnswer.{BuildAnswer}
+use Rattle.arnr.specs.declared.BuildAnswer.the-variants.{Refused}
+use Rattle.arnr.specs.Window.{arnrRule}
+use Rattle.arnr.specs.Demand.{Held}
+use Rattle.arnr.specs.Build.{asked, BuildInput, BuildIs, outcomeOf, outputAfter, workingAfter, buildOutcome}
+use Rattle.altref.specs.Records.{maxFrames}
+
+never : {A : Type 0} (n : ℕ) (v : List ℕ) (x : A) → refused n v ≡ accepted x → ⊥
+never n v x e = let z : _≡_ {A = ℕ} 0 1 = cc in omega arith
+
+unchanged : (o : Outcome Built) (n : ℕ) (v : List ℕ) (old new : List ℕ) → o ≡ refused n v → old ≡ after o old new
+unchanged o n v old new e = ap (λ (p : Outcome Built). after p old new) (sym e)
+
+-- the refusal that the definition gives, with no lent slice changed, is what is promised
+refuses : (b : BuildInput) (x : Refusal) (n : ℕ) (v : List ℕ) → refusalOutcome {A = Built} x ≡ refused n v → outcomeOf arnrRule b ≡ refused n v → BuildIs b (Refused x) (b .lent)
+unfolding outputAfter workingAfter
+refuses b x n v is e =
+    record {
+      answer = is ∙ sym e;
+      output = unchanged (outcomeOf arnrRule b) n v (b .lent .output) _ e;
+      sums = unchanged (outcomeOf arnrRule b) n v (b .lent .sums) _ e;
+      weights = unchanged (outcomeOf arnrRule b) n v (b .lent .weights) _ e;
+      demand3 = λ a d. absurd (never n v a (sym is ∙ ap buildOutcome d));
+    }
+
+-- the numbers of `count` frames are `count` frames
+counted : (xs : List ℕ) (count : ℕ) → length xs ≡ count * numbersPerFrame → frameCount xs ≡ count
+counted xs count e = omega (arith, e)
+
+-- 1: the centre index is not below the count
+pub no-centre : (bytes xs : List ℕ) (count centre strength : ℕ) (lent : Held) → length xs ≡ count * numbersPerFrame → count ≤ centre
+    → BuildIs (record { request = asked bytes xs centre strength; lent = lent }) (Refused NoCentre) lent
+unfolding outcomeOf
+no-centre bytes xs count centre strength lent e h =
+    refuses (record { request = asked bytes xs centre strength; lent = lent }) NoCentre 1 [] refl (simp (le-leb (frameCount xs) centre (omega (arith, counted xs count e, h))))
+
+-- 2: it is, and the count exceeds 1024
+pub too-many : (bytes xs : List ℕ) (count centre strength : ℕ) (lent : Held) → length xs ≡ count * numbersPerFrame → centre < count → maxFrames < count
+    → BuildIs (record { request = asked bytes xs centre strength; lent = lent }) (Refused TooManyFrames) lent
+unfolding outcomeOf
+too-many bytes xs count centre strength lent e h g =
+    refuses (record { request = asked bytes xs centre strength; lent = lent }) TooManyFrames 2 []
+    refl
+    (simp (lt-leb (frameCount xs) centre (omega (arith, counted xs count e, h)), lt-ltb maxFrames (frameCount xs) (omega (arith, counted xs count e, g))))
