@@ -146,5 +146,3 @@ module _ (b : BuildInput) where
             weights = rw (sym o) (made .weights);
             demand3 = λ a p t. demand t;
           }
-
--- t

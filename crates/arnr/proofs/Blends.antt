@@ -144,5 +144,3 @@ module _ (q : Request) (w h : ℕ) (legal : Legal q w h) (byte : (i : ℕ) → g
               ∙ ap (λ (a : ℕ). denoised (sumAt (arnrRule (sceneOf q)) (windowOf q) k x y) a) (t .at k x y hk hx hy)
               ∙ (unfold denoisedAt in refl);
         }
-
--- t

@@ -185,5 +185,3 @@ module _ (b : BuildInput) (s : Size) (e : checks (givenOf b) ≡ accepted s) (by
       let l = legal b (Legal s) s (sym e) refl in
       sum-most (arnrRule (sceneOf (b .request))) (windowOf (b .request)) k x y (window-fair (b .request) (s .width) (s .height) l byte)
       (window-byte (b .request) (s .width) (s .height) l byte k x y) (window-few (b .request) (s .width) (s .height) l byte)
-
--- t

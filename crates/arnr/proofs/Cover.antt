@@ -73,5 +73,3 @@ module _ (k w h i j x y : ℕ) (acc : ℕ → ℕ → Bool) (f : ℕ → ℕ →
 pub within-grid : (k n x : ℕ) → x < sideOf k n → x / unitOf k < gridSide n
 within-grid zero n x h = omega arith
 within-grid (suc k) n x h = omega arith
-
--- t

@@ -104,5 +104,3 @@ module _ {F : Type 0} (rule : Rule F) (w : Window F) (fair : Each (Fair rule (w 
         share = share-is rule w k x y;
         bound = rw eo (sample-near rule w k x y fair (byte k x y));
       }
-
--- t

@@ -70,5 +70,3 @@ shows-three w h f {old} {a} {b} {now} p q r =
         r .before (w * h + (y * half w + x)) (omega arith) ∙ q .inside x y hx hy
     at (suc (suc zero)) x y hk hx hy = r .inside x y hx hy
     at (suc (suc (suc k))) x y hk hx hy = absurd (omega arith)
-
--- t

@@ -91,5 +91,3 @@ gate-none p v = ap (λ (t : Bool). gate t v) (le-ltb p 0 (omega arith)) ∙ gate
 
 pub row-none : (q i p v : ℕ) → gate (eqb q i) (gate (ltb p 0) v) ≡ 0
 row-none q i p v = ap (gate (eqb q i)) (gate-none p v) ∙ gate-zero (eqb q i)
-
--- t

@@ -126,5 +126,3 @@ curve-at strength e = by (decLt e 256)
 
 pub curve-light : (strength e : ℕ) → getD (tabulate 256 (weightRead strength)) e 0 ≤ 16
 curve-light strength e = rw (curve-at strength e) (read-most strength e)
-
--- t

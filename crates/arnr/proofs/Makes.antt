@@ -72,5 +72,3 @@ module _ (q : Request) (w h : ℕ) (legal : Legal q w h) (n : ℕ) (n-is : n ≡
         sums = rw t (filled-is _ (held .sums) (lent .sums) (b .sums));
         weights = rw t (filled-is _ (held .weights) (lent .weights) (b .weights));
       }
-
--- t

@@ -93,5 +93,3 @@ module _ (bytes numbers : List ℕ) (c : ℕ) where
       let b = mul-le-mul-right m (but-most c n) in
       let e = mul-comm m (length (allBut c n)) in
       omega arith)
-
--- t

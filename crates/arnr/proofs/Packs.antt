@@ -115,5 +115,3 @@ module _ (w h : ℕ) (f : ℕ → ℕ → ℕ → ℕ) where
       at i less =
           let p = found w h i wide less in
           rw (sym (p .is)) (s .at (p .k) (p .x) (p .y) (p .plane) (p .column) (p .row) ∙ sym (packed-at (p .k) (p .x) (p .y) (p .plane) (p .column) (p .row)))
-
--- t

@@ -42,5 +42,3 @@ module _ (curve : List ℕ) (s : Scene) (f : Picture) (k x y : ℕ) where
 
   pub term-light : Light curve → ((a b : ℤ) → f k a b ≤ 255) → curveTerm curve s f k x y ≤ 4080
   term-light light byte = rw term-at (gate-most _ _ 4080 (term-most curve _ _ light x y (byte _ _)))
-
--- t

@@ -150,5 +150,3 @@ module _ (curve : List ℕ) (c s : Samples) (light : Light curve) where
   pub term-most : (x y : ℕ) → s (pos x) (pos y) ≤ 255 → termBy curve c s x y ≤ 4080
   unfolding termBy
   term-most x y byte = mul-le-mul (share-most x y) byte
-
--- t

@@ -88,5 +88,3 @@ pub plane-end : (k w h : ℕ) → k < 3 → offsetOf k w h + sideOf k w * sideOf
 plane-end zero w h l = omega arith
 plane-end (suc zero) w h l = omega arith
 plane-end (suc (suc k)) w h l = omega arith
-
--- t
