@@ -1,6 +1,6 @@
 // The builder over a lent slice of frame records: their numbers are taken into an array, and handed to the builder over numbers.
-use arnr::ArnrConfig;
 use arnr::BuildAnswer;
+use weights::ArnrConfig;
 use window::Frame;
 use window::NUMBERS_PER_FRAME;
 use window::Refusal;

@@ -4,10 +4,10 @@ mod build;
 mod sad;
 mod search;
 
+use weights::ArnrConfig;
 use window::Checked;
 use window::Refusal;
 ghost use mathlib.Core.Path.{_≡_};
-ghost use Prim.Native.Nat.{min};
 ghost use lib.ListN.{length};
 ghost use Rattle.arnr.specs.Demand.{Held};
 ghost use Rattle.arnr.specs.Build.{BuildInput, BuildIs, asked};
@@ -38,43 +38,6 @@ pub struct PlaneNumbers {
 pub struct Motion {
     pub shift: Shift,
     pub sad: u32,
-}
-
-// How strongly other frames are blended: 0 only crops the centre, 7 to 255 are read as 6.
-pub struct ArnrConfig {
-    pub strength: u8,
-}
-
-impl ArnrConfig {
-    // The largest strength that differs from those below it.
-    pub const MAX_STRENGTH: u8 = 6;
-
-    // Stores at most 6.
-    pub fn new(strength: u8) -> ArnrConfig
-        ensures { λ r. ⌜ r .strength ≡ min strength 6 ⌝ }
-    {
-        if strength < ArnrConfig::MAX_STRENGTH {
-            ArnrConfig { strength: strength }
-        } else {
-            ArnrConfig {
-                strength: ArnrConfig::MAX_STRENGTH,
-            }
-        }
-    }
-
-    // Strength 3.
-    pub fn default() -> ArnrConfig
-        ensures { λ r. ⌜ r .strength ≡ 3 ⌝ }
-    {
-        ArnrConfig { strength: 3 }
-    }
-
-    // Stores any byte.
-    pub fn with_strength(self, v: u8) -> ArnrConfig
-        ensures { λ r. ⌜ r .strength ≡ v ⌝ }
-    {
-        ArnrConfig { strength: v }
-    }
 }
 
 // The picture's size, and the number of accepted blocks over all other frames.

@@ -1,6 +1,6 @@
 // Frame records in an array: the first of them are lent to the builder over records.
-use arnr::ArnrConfig;
 use arnr::BuildAnswer;
+use weights::ArnrConfig;
 use window::Frame;
 ghost use mathlib.Core.Path.{_≡_};
 ghost use Prim.Native.Nat.{ℕ, _≤_, min};

@@ -1,8 +1,8 @@
 // Runs the builder over frame records beside the builder over numbers, on the same frames, and prints for
 // each case document 01's number of the outcome (0: accepted), and whether the answer and the three lent
 // slices are the same.
-use arnr::ArnrConfig;
 use arnr::BuildAnswer;
+use weights::ArnrConfig;
 use window::Refusal;
 ghost use mathlib.Core.Path.{_≡_};
 ghost use lib.ListN.{length};

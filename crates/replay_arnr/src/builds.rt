@@ -8,9 +8,9 @@ use crate::parts::old_words;
 use crate::parts::part;
 use crate::parts::small;
 use crate::parts::words_agree;
-use arnr::ArnrConfig;
 use arnr::BuildAnswer;
 use arnr::build_from_numbers;
+use weights::ArnrConfig;
 use window::Refusal;
 
 fn config_of(record: &[u8; 144]) -> ArnrConfig {

@@ -1,4 +1,4 @@
-// The weight curves of the denoiser, and how far it can move a sample.
+// The denoiser's configuration and weight curves, and how far it can move a sample.
 mod table;
 
 use table::WEIGHTS;
@@ -8,6 +8,43 @@ ghost use Rattle.laws.specs.Tabulate.{tabulate};
 ghost use Rattle.laws.specs.Largest.{nearest};
 ghost use Rattle.weights.specs.Weights.{scale, weightOf, weightRead};
 ghost use Rattle.weights.specs.Blend.{distanceBound};
+
+// How strongly other frames are blended: 0 only crops the centre, 7 to 255 are read as 6.
+pub struct ArnrConfig {
+    pub strength: u8,
+}
+
+impl ArnrConfig {
+    // The largest strength that differs from those below it.
+    pub const MAX_STRENGTH: u8 = 6;
+
+    // Stores at most 6.
+    pub fn new(strength: u8) -> ArnrConfig
+        ensures { λ r. ⌜ r .strength ≡ min strength 6 ⌝ }
+    {
+        if strength < ArnrConfig::MAX_STRENGTH {
+            ArnrConfig { strength: strength }
+        } else {
+            ArnrConfig {
+                strength: ArnrConfig::MAX_STRENGTH,
+            }
+        }
+    }
+
+    // Strength 3.
+    pub fn default() -> ArnrConfig
+        ensures { λ r. ⌜ r .strength ≡ 3 ⌝ }
+    {
+        ArnrConfig { strength: 3 }
+    }
+
+    // Stores any byte.
+    pub fn with_strength(self, v: u8) -> ArnrConfig
+        ensures { λ r. ⌜ r .strength ≡ v ⌝ }
+    {
+        ArnrConfig { strength: v }
+    }
+}
 
 // The scale at a strength byte: 7 to 255 are read as 6.
 pub fn scale_of(strength: u8) -> u32

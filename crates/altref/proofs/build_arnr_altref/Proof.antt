@@ -57,9 +57,9 @@ use Rattle.arnr.specs.Build.{asked, BuildInput, BuildIs}
 use Rattle.altref.specs.Records.{arraySize, flat, filled, takenOf, OverArray}
 use Rattle.altref.proofs.Laws.{begins, taken-few, taken-there}
 use Rattle.window.proofs.Frame as T
-use Rattle.arnr.specs.declared.ArnrConfig.{ArnrConfig}
-use Rattle.arnr.proofs.ArnrConfig as Cf
-use Rattle.arnr.proofs.ArnrConfig.Laws as Cf′
+use Rattle.weights.specs.declared.ArnrConfig.{ArnrConfig}
+use Rattle.weights.proofs.ArnrConfig as Cf
+use Rattle.weights.proofs.ArnrConfig.Laws as Cf′
 use Rattle.arnr.proofs.BuildAnswer as S
 use Rattle.arnr.proofs.BuildAnswer.Laws as S′
 use Rattle.altref.proofs.taken as taken

@@ -70,9 +70,9 @@ use Rattle.altref.specs.Records.{flat}
 use Rattle.framelist.specs.Lists.{arrayRecords}
 use Rattle.window.proofs.Frame as T
 use Rattle.window.proofs.Frame.Laws as T′
-use Rattle.arnr.specs.declared.ArnrConfig.{ArnrConfig}
-use Rattle.arnr.proofs.ArnrConfig as Cf
-use Rattle.arnr.proofs.ArnrConfig.Laws as Cf′
+use Rattle.weights.specs.declared.ArnrConfig.{ArnrConfig}
+use Rattle.weights.proofs.ArnrConfig as Cf
+use Rattle.weights.proofs.ArnrConfig.Laws as Cf′
 use Rattle.arnr.proofs.BuildAnswer as S
 use Rattle.arnr.proofs.BuildAnswer.Laws as S′
 use Rattle.altref.proofs.build_arnr_altref as build
