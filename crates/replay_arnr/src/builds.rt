@@ -1,4 +1,4 @@
-// One record: the builder called, its answer and the lent slices compared.
+// One record: the builder called in both forms, its answers and the lent slices compared.
 use crate::parts::bytes_agree;
 use crate::parts::least;
 use crate::parts::loaded;
@@ -9,7 +9,6 @@ use crate::parts::part;
 use crate::parts::small;
 use crate::parts::words_agree;
 use arnr::BuildAnswer;
-use arnr::build_from_numbers;
 use weights::ArnrConfig;
 use window::Refusal;
 
@@ -73,8 +72,29 @@ fn hold(record: &[u8; 144], payload: &[u8], output: &[u8], sums: &[u32], weights
         && words_agree(weights, part(payload, from + samples + entries, entries))
 }
 
+// The builder over numbers, or over records of the same frames.
+fn built(
+    records: bool,
+    bytes: &[u8],
+    numbers: &[u32],
+    centre: usize,
+    config: ArnrConfig,
+    output: &mut [u8],
+    sums: &mut [u32],
+    weights: &mut [u32],
+) -> BuildAnswer {
+    if records {
+        let count = window::frame_count(numbers);
+        let frames = framelist::records_of(numbers);
+        framelist::build_of(bytes, frames, count, centre, config, output, sums, weights)
+    } else {
+        arnr::build_from_numbers(bytes, numbers, centre, config, output, sums, weights)
+    }
+}
+
 // The call: its answer, then each lent slice.
 fn builds(
+    records: bool,
     bytes: &[u8],
     numbers: &[u32],
     record: &[u8; 144],
@@ -85,12 +105,21 @@ fn builds(
 ) -> bool {
     let centre = number(record, 5);
     let config = config_of(record);
-    let answer = build_from_numbers(bytes, numbers, centre, config, output, sums, weights);
+    let answer = built(
+        records,
+        bytes,
+        numbers,
+        centre,
+        config,
+        output,
+        sums,
+        weights,
+    );
     has_answer(record, answer) && hold(record, payload, output, sums, weights)
 }
 
 // The same with slices of the lengths that the record has.
-pub fn agrees(pictures: &[u8], payload: &[u8], record: &[u8; 144]) -> bool {
+fn agrees_by(records: bool, pictures: &[u8], payload: &[u8], record: &[u8; 144]) -> bool {
     let mut output = old_bytes();
     let mut sums = old_words();
     let mut weights = old_words();
@@ -100,6 +129,7 @@ pub fn agrees(pictures: &[u8], payload: &[u8], record: &[u8; 144]) -> bool {
     let s = least(number(record, 9), 40000);
     let w = least(number(record, 10), 40000);
     builds(
+        records,
         part(pictures, 0, number(record, 2)),
         &numbers[..given],
         record,
@@ -108,4 +138,11 @@ pub fn agrees(pictures: &[u8], payload: &[u8], record: &[u8; 144]) -> bool {
         &mut sums[..s],
         &mut weights[..w],
     )
+}
+
+// Both forms, each with slices of its own: the answer and every slice are the stored ones, so those of one form are those of the other.
+pub fn agrees(pictures: &[u8], payload: &[u8], record: &[u8; 144]) -> bool {
+    let over_numbers = agrees_by(false, pictures, payload, record);
+    let over_records = agrees_by(true, pictures, payload, record);
+    over_numbers && over_records
 }

@@ -1,5 +1,6 @@
-// Replays the stored answers of the Rust originals on the crate `arnr`, and prints how many cases it
-// compared and how many differ: the empty window first, then one frame, then strength 0, then windows.
+// Replays the stored answers of the Rust originals on the builder, over numbers and over frame records, and
+// prints how many cases it compared and how many differ: the empty window first, then one frame, then
+// strength 0, then windows.
 // The layout of `pictures` and `cases` is written in oracle/src/denoiser/mod.rs.
 mod builds;
 mod parts;
@@ -31,6 +32,7 @@ fn replay_one(fd: i32, pictures: &[u8], counts: &mut [u64; 16]) -> bool {
         return false;
     }
     tally::add(counts, kind, builds::agrees(pictures, &payload, &record));
+    tally::add_both(counts);
     true
 }
 

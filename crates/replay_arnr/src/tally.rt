@@ -1,5 +1,5 @@
 // Counts by kind, 1 to 6: compared at the kind, differing at 8 plus the kind. At 7 and 15 stand those of
-// all, at 8 the first record that differs.
+// all, at 8 the first record that differs, at 0 the builds that were run in both forms.
 use std::num::wrapping_add_u64;
 
 fn bump(counts: &mut [u64; 16], at: usize) {
@@ -22,19 +22,29 @@ pub fn add(counts: &mut [u64; 16], kind: usize, agrees: bool) {
     bump(counts, kind % 8 + 8);
 }
 
+// One more build that was run over numbers and over records.
+pub fn add_both(counts: &mut [u64; 16]) {
+    bump(counts, 0);
+}
+
 fn print(text: &[u8]) {
     io::write_all(1, text);
 }
 
 // The counts at a place below 8.
-fn print_line(counts: &[u64; 16], at: usize, name: &[u8]) {
+fn print_counts(counts: &[u64; 16], at: usize, name: &[u8]) {
     print(name);
     if at < 8 {
         io::print_decimal(1, counts[at]);
         print(b" compared, ");
         io::print_decimal(1, counts[8 + at]);
-        print(b" differ\n");
+        print(b" differ");
     }
+}
+
+fn print_line(counts: &[u64; 16], at: usize, name: &[u8]) {
+    print_counts(counts, at, name);
+    print(b"\n");
 }
 
 fn print_kinds(counts: &[u64; 16]) {
@@ -44,7 +54,10 @@ fn print_kinds(counts: &[u64; 16]) {
     print_line(counts, 4, b"windows: ");
     print_line(counts, 5, b"refusals: ");
     print_line(counts, 6, b"configurations: ");
-    print_line(counts, 7, b"all: ");
+    print_counts(counts, 7, b"all: ");
+    print(b"; ");
+    io::print_decimal(1, counts[0]);
+    print(b" builds were run in both forms, over numbers and over records\n");
 }
 
 pub fn print_failure(counts: &[u64; 16], why: &[u8]) {

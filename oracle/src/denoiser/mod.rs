@@ -1,4 +1,5 @@
-//! The answers for the crate `arnr`: the files `pictures` and `cases` of the replay's data/, and its stdout.
+//! The answers for the builder, over numbers and over records: the files `pictures` and `cases` of the replay's
+//! data/, and its stdout.
 //!
 //! `pictures` is laid out in pictures.rs; the picture bytes of a case are its first ones. `cases` is a file of
 //! records of 18 numbers (see records.rs). Counted from 0:
@@ -69,10 +70,12 @@ pub fn write(folder: &Path) -> std::io::Result<()> {
 }
 
 fn printed(records: &Records) -> String {
-    let line = |name: &str, cases: u64| format!("{name}: {cases} compared, 0 differ\n");
+    let line = |name: &str, cases: u64| format!("{name}: {cases} compared, 0 differ");
     let cases: Vec<u64> = (1..=6).map(|kind| records.of_kind(kind)).collect();
-    let kinds: String = KINDS.iter().zip(&cases).map(|(name, &cases)| line(name, cases)).collect();
-    kinds + &line("all", cases.iter().sum())
+    let kinds: String = KINDS.iter().zip(&cases).map(|(name, &cases)| line(name, cases) + "\n").collect();
+    let builds: u64 = cases[..5].iter().sum();
+    let both = format!("; {builds} builds were run in both forms, over numbers and over records\n");
+    kinds + &line("all", cases.iter().sum()) + &both
 }
 
 fn configuration(made: u64, strength: u8) -> ArnrConfig {

@@ -1,9 +1,9 @@
--- `agrees` is safe: it lends as many entries of each array as `least` allows. Assumes nothing.
+-- `agrees_by` is safe: it lends as many entries of each array as `least` allows. Assumes nothing.
 use borrow.Author.Needs.{needs}
 use native.Mathlib.Omega.{arith}
 use lib.ListN.{length-take}
-use Rattle.replay_arnr.proofs.builds.agrees.Statement.{statement}
-use Rattle.replay_arnr.proofs.builds.agrees.Tie as tie
+use Rattle.replay_arnr.proofs.builds.agrees_by.Statement.{statement}
+use Rattle.replay_arnr.proofs.builds.agrees_by.Tie as tie
 
 old-bytes-requires : tie.Need-old-bytes-requires
 old-bytes-requires c κs = search needs
@@ -80,8 +80,8 @@ builds-requires c κs = search needs
 returns : tie.Need-returns
 returns c = search needs
 
-pub agrees-spec : {M : Type 1} → statement M
-agrees-spec =
+pub agrees-by-spec : {M : Type 1} → statement M
+agrees-by-spec =
     tie.close
     (tie.spec
     old-bytes-requires
