@@ -54,7 +54,7 @@ pub fn bad_size(width: usize, height: usize) -> bool
     bad_side(height)
 }
 
-// Refusal 9: len is below (height - 1) times stride + width, at any stride.
+// Refusal 9: len is below (height - 1) times stride + width, at any stride: a product is made only where it cannot wrap.
 pub fn short_plane(len: usize, stride: usize, width: usize, height: usize) -> bool
     ensures { λ r. ⌜ r ≡ ltb len ((height - 1) * stride + width) ⌝ }
 {
@@ -63,6 +63,11 @@ pub fn short_plane(len: usize, stride: usize, width: usize, height: usize) -> bo
     }
     if height <= 1 {
         return false;
+    }
+    if height <= 16384 {
+        if stride <= 4294967296 {
+            return len - width < (height - 1) * stride;
+        }
     }
     (len - width) / (height - 1) < stride
 }

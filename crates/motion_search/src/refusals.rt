@@ -46,11 +46,19 @@ fn magnitude(v: i16) -> u32
     v as u32
 }
 
+// A division by a literal is a mask.
 fn not_multiple(n: u32, v: i16) -> bool
     requires { ⌜ 0 < n ⌝ }
     ensures { λ r. ⌜ r ≡ notMultiple n v ⌝ }
 {
-    0 < magnitude(v) % n
+    let m = magnitude(v);
+    if n == 4 {
+        return 0 < m % 4;
+    }
+    if n == 2 {
+        return 0 < m % 2;
+    }
+    0 < m % n
 }
 
 // 12.

@@ -1,10 +1,10 @@
--- `short_plane` meets its contract: a quotient tells whether a product exceeds, so that no product is made. Assumes nothing.
+-- `short_plane` meets its contract: a product is made where it cannot wrap; elsewhere a quotient tells whether it exceeds. Assumes nothing.
 use mathlib.Core.Path.{_≡_, refl, sym, ap, _∙_}
 use native.Mathlib.Omega.{arith}
 use borrow.Author.Tests.{eq-eqb, ne-eqb, lt-ltb, le-ltb, ltb-true, ltb-false}
 use Prim.Native.Nat.{ℕ, zero, _+_, _-_, _*_, _/_, _<_, _≤_}
 use mathlib.Core.Bool.{Bool, true, false}
-use native.Mathlib.Nat.{div-lt-iff-lt-mul, mul-comm, zero-mul}
+use native.Mathlib.Nat.{div-lt-iff-lt-mul, mul-comm, zero-mul, mul-le-mul}
 use native.Mathlib.Decide.{decLt}
 use lib.Dec.{ltb}
 use borrow.Author.Needs.{needs}
@@ -23,6 +23,14 @@ exceeds len stride w m h p = go (decLt ((len - w) / m) stride)
         least (yes l) = absurd (g (div-lt-iff-lt-mul {k = m} {x = len - w} {y = stride} p .1 l))
         least (no k) = omega (arith, mul-comm stride m)
 
+-- what is left of len by w is below a product
+left-over : (len w k : ℕ) → w ≤ len → ltb (len - w) k ≡ ltb len (k + w)
+left-over len w k h = go (decLt (len - w) k)
+  where
+    go : Dec (len - w < k) → ltb (len - w) k ≡ ltb len (k + w)
+    go (yes l) = lt-ltb _ _ l ∙ sym (lt-ltb len (k + w) (omega arith))
+    go (no g) = le-ltb (len - w) k (omega arith) ∙ sym (le-ltb len (k + w) (omega arith))
+
 returns : tie.Need-returns
 returns c =
     let s = c .before .args in
@@ -37,13 +45,28 @@ returns-2 c =
 sub-result : tie.Need-sub-result
 sub-result c = search needs
 
-div-result : tie.Need-div-result
-div-result c = search needs
+mul-result : tie.Need-mul-result
+mul-result c =
+    let s = c .before .before .before .before .args in
+    let a : s .height - 1 ≤ 16384 = omega arith in
+    let b : s .stride ≤ 4294967296 = omega arith in
+    omega (arith, mul-le-mul a b)
 
 returns-3 : tie.Need-returns-3
 returns-3 c =
-    let s = c .before .before .args in
+    let s = c .before .before .before .before .args in
+    left-over (s .len) (s .width) ((s .height - 1) * s .stride) (omega arith)
+
+sub-result-2 : tie.Need-sub-result-2
+sub-result-2 c = search needs
+
+div-result : tie.Need-div-result
+div-result c = search needs
+
+returns-4 : tie.Need-returns-4
+returns-4 c =
+    let s = c .before .before .before .args in
     exceeds (s .len) (s .stride) (s .width) (s .height - 1) (omega arith) (omega arith)
 
 pub short-plane-spec : {M : Type 1} → statement M
-short-plane-spec = tie.close (tie.spec returns returns-2 sub-result div-result returns-3)
+short-plane-spec = tie.close (tie.spec returns returns-2 sub-result mul-result returns-3 sub-result-2 div-result returns-4)
