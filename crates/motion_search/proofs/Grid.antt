@@ -14,7 +14,7 @@ use Rattle.motion_search.specs.Search.{clampedMv, onGrid, gridded, stepp
 use Rattle.prediction.specs.Vector.{doubled, wholeOf, fractionOf}
 use Rattle.motion_search.specs.Refusals.{outOfRange, offGrid}
 use Rattle.motion_search.specs.Conditions.{Grid, Whole, Copied}
-use Rattle.motion_search.proofs.Accepted.{range-line, grid-line}
+use Rattle.motion_search.proofs.Accepted.{in-range, multiple, range-line, grid-line}
 
 -- a component on the grid, and one that is a step away, fit 16 bits
 pub grid-fits : (z : ℤ) → Grid z → SFits w16 z
@@ -164,3 +164,19 @@ grid-four z g = omega (arith, g .up4, g .dn4, self z .abs, one-zero z)
 
 pub whole-multiple : (v : Mv) → Whole v → offGrid 4 v ≡ false
 whole-multiple v w = grid-line 4 v (record { row = grid-four (v .row) (w .row); col = grid-four (v .col) (w .col) })
+
+-- and back: what neither 11 nor 12 refuses is a whole vector
+four-grid : (z : ℤ) → natAbs z ≤ 1023 → natAbs z % 4 ≡ 0 → Grid z
+four-grid z h e =
+    record {
+      up = omega (arith, self z .abs, one-zero z);
+      dn = omega (arith, self z .abs, one-zero z);
+      up4 = omega (arith, self z .abs, one-zero z);
+      dn4 = omega (arith, self z .abs, one-zero z);
+    }
+
+pub measured-whole : (v : Mv) → outOfRange v ≡ false → offGrid 4 v ≡ false → Whole v
+measured-whole v range e =
+    let r = in-range v range in
+    let m = multiple 4 v e in
+    record { row = four-grid (v .row) (r .row) (m .row); col = four-grid (v .col) (r .col) (m .col) }

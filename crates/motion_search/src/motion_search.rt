@@ -6,6 +6,7 @@ use crate::refusals::off_grid;
 use crate::refusals::out_of_range;
 use crate::sads::any_sad;
 use crate::sads::block_sad;
+use crate::sads::whole_sad;
 use crate::site::Site;
 use fetch::bad_size;
 use fetch::short_plane;
@@ -72,20 +73,16 @@ pub enum DiamondAnswer {
 }
 
 // The SAD of two blocks of 16 by 16 samples.
-pub fn block_sad_16x16(src: [u8; 256], pred: [u8; 256]) -> u32
-    ensures { λ r. ⌜ r ≡ sad16 src pred ⌝ }
+pub fn block_sad_16x16(src: &[u8; 256], pred: &[u8; 256]) -> u32
+    ensures { λ r. ⌜ r ≡ sad16 (now (src .entry)) (now (pred .entry)) ⌝ }
 {
-    block_sad(&src, &pred)
+    block_sad(src, pred)
 }
 
-// The SAD of a macroblock at a vector on the grid of n, whose components are multiples of n.
-fn sad_luma(plane: &[u8], s: Site, src: &[u8], mv: Mv, n: u32) -> SadAnswer
-    requires { ⌜ (length (now src) ≡ 256) × (0 < n) ⌝ }
-    ensures { λ r.
-        ⌜ sadOutcome r
-        ≡ firstOf (gridLines n (planeOf (now (plane .entry)) s) (s .column) (s .row) mv)
-        (costAt (now (plane .entry)) s (now (src .entry)) mv)
-        ⌝ }
+// The first refusal that applies to a vector on the grid of n, whose components are multiples of n; where none does, 0 for the SAD.
+fn checked(plane: &[u8], s: Site, mv: Mv, n: u32) -> SadAnswer
+    requires { ⌜ 0 < n ⌝ }
+    ensures { λ r. ⌜ sadOutcome r ≡ firstOf (gridLines n (planeOf (now (plane .entry)) s) (s .column) (s .row) mv) 0 ⌝ }
 {
     if bad_size(s.width, s.height) {
         return SadAnswer::BadSize;
@@ -102,7 +99,24 @@ fn sad_luma(plane: &[u8], s: Site, src: &[u8], mv: Mv, n: u32) -> SadAnswer
     if off_grid(n, mv) {
         return SadAnswer::OffGrid;
     }
-    SadAnswer::Sad(any_sad(plane, s, src, mv))
+    SadAnswer::Sad(0)
+}
+
+// The SAD of a macroblock at a vector on the grid of n.
+fn sad_luma(plane: &[u8], s: Site, src: &[u8], mv: Mv, n: u32) -> SadAnswer
+    requires { ⌜ (length (now src) ≡ 256) × (0 < n) ⌝ }
+    ensures { λ r.
+        ⌜ sadOutcome r
+        ≡ firstOf (gridLines n (planeOf (now (plane .entry)) s) (s .column) (s .row) mv)
+        (costAt (now (plane .entry)) s (now (src .entry)) mv)
+        ⌝ }
+{
+    let first = checked(plane, s, mv, n);
+    if let SadAnswer::Sad(_) = first {
+        SadAnswer::Sad(any_sad(plane, s, src, mv))
+    } else {
+        first
+    }
 }
 
 // The SAD of a macroblock at a whole vector.
@@ -113,13 +127,13 @@ pub fn mb_luma_sad_at_whole_mv(
     height: usize,
     mb_col: usize,
     mb_row: usize,
-    src_y: [u8; 256],
+    src_y: &[u8; 256],
     mv: Mv,
 ) -> SadAnswer
     ensures { λ r.
         ⌜ sadOutcome r
         ≡ firstOf (gridLines 4 (lumaPlane (now (plane .entry)) stride width height) «mb_col» «mb_row» mv)
-        (costOf (lumaPlane (now (plane .entry)) stride width height) «mb_col» «mb_row» «src_y» mv)
+        (costOf (lumaPlane (now (plane .entry)) stride width height) «mb_col» «mb_row» (now («src_y» .entry)) mv)
         ⌝ }
 {
     let s = Site {
@@ -129,7 +143,12 @@ pub fn mb_luma_sad_at_whole_mv(
         column: mb_col,
         row: mb_row,
     };
-    sad_luma(plane, s, &src_y, mv, WHOLE_PIXEL_STEP as u32)
+    let first = checked(plane, s, mv, WHOLE_PIXEL_STEP as u32);
+    if let SadAnswer::Sad(_) = first {
+        SadAnswer::Sad(whole_sad(plane, s, src_y, mv))
+    } else {
+        first
+    }
 }
 
 // The SAD of a macroblock at any vector in range: every one is on the grid of 1.
@@ -140,13 +159,13 @@ pub fn mb_luma_sad_at_mv(
     height: usize,
     mb_col: usize,
     mb_row: usize,
-    src_y: [u8; 256],
+    src_y: &[u8; 256],
     mv: Mv,
 ) -> SadAnswer
     ensures { λ r.
         ⌜ sadOutcome r
         ≡ firstOf (vectorLines (lumaPlane (now (plane .entry)) stride width height) «mb_col» «mb_row» mv)
-        (costOf (lumaPlane (now (plane .entry)) stride width height) «mb_col» «mb_row» «src_y» mv)
+        (costOf (lumaPlane (now (plane .entry)) stride width height) «mb_col» «mb_row» (now («src_y» .entry)) mv)
         ⌝ }
 {
     let s = Site {
@@ -156,7 +175,7 @@ pub fn mb_luma_sad_at_mv(
         column: mb_col,
         row: mb_row,
     };
-    sad_luma(plane, s, &src_y, mv, 1)
+    sad_luma(plane, s, src_y, mv, 1)
 }
 
 // The small diamond around any centre.
@@ -167,14 +186,14 @@ pub fn small_diamond_search_luma(
     height: usize,
     mb_col: usize,
     mb_row: usize,
-    src_y: [u8; 256],
+    src_y: &[u8; 256],
     center: Mv,
     max_iters: u32,
 ) -> DiamondAnswer
     ensures { λ r.
         ⌜ diamondOutcome r
         ≡ firstOf (placeLines (lumaPlane (now (plane .entry)) stride width height) «mb_col» «mb_row»)
-        (diamond (costOf (lumaPlane (now (plane .entry)) stride width height) «mb_col» «mb_row» «src_y») center «max_iters»)
+        (diamond (costOf (lumaPlane (now (plane .entry)) stride width height) «mb_col» «mb_row» (now («src_y» .entry))) center «max_iters»)
         ⌝ }
 {
     if bad_size(width, height) {
@@ -193,7 +212,7 @@ pub fn small_diamond_search_luma(
         column: mb_col,
         row: mb_row,
     };
-    DiamondAnswer::Found(small_diamond(plane, s, &src_y, center, max_iters))
+    DiamondAnswer::Found(small_diamond(plane, s, src_y, center, max_iters))
 }
 
 // A refinement by a step of a centre on the grid of twice the step: refused where the centre's SAD is.
@@ -235,13 +254,13 @@ pub fn half_pixel_refine_luma(
     height: usize,
     mb_col: usize,
     mb_row: usize,
-    src_y: [u8; 256],
+    src_y: &[u8; 256],
     whole_pixel_center: Mv,
 ) -> SearchAnswer
     ensures { λ r.
         ⌜ searchOutcome r
         ≡ firstOf (gridLines 4 (lumaPlane (now (plane .entry)) stride width height) «mb_col» «mb_row» «whole_pixel_center»)
-        (refine (costOf (lumaPlane (now (plane .entry)) stride width height) «mb_col» «mb_row» «src_y») 2 «whole_pixel_center»)
+        (refine (costOf (lumaPlane (now (plane .entry)) stride width height) «mb_col» «mb_row» (now («src_y» .entry))) 2 «whole_pixel_center»)
         ⌝ }
 {
     let s = Site {
@@ -251,7 +270,7 @@ pub fn half_pixel_refine_luma(
         column: mb_col,
         row: mb_row,
     };
-    refine_luma(plane, s, &src_y, whole_pixel_center, HALF_PIXEL_STEP as u32)
+    refine_luma(plane, s, src_y, whole_pixel_center, HALF_PIXEL_STEP as u32)
 }
 
 // The centre, a vector on the grid of half pixels, and its eight neighbours at a quarter pixel.
@@ -262,13 +281,13 @@ pub fn quarter_pixel_refine_luma(
     height: usize,
     mb_col: usize,
     mb_row: usize,
-    src_y: [u8; 256],
+    src_y: &[u8; 256],
     half_pixel_center: Mv,
 ) -> SearchAnswer
     ensures { λ r.
         ⌜ searchOutcome r
         ≡ firstOf (gridLines 2 (lumaPlane (now (plane .entry)) stride width height) «mb_col» «mb_row» «half_pixel_center»)
-        (refine (costOf (lumaPlane (now (plane .entry)) stride width height) «mb_col» «mb_row» «src_y») 1 «half_pixel_center»)
+        (refine (costOf (lumaPlane (now (plane .entry)) stride width height) «mb_col» «mb_row» (now («src_y» .entry))) 1 «half_pixel_center»)
         ⌝ }
 {
     let s = Site {
@@ -281,7 +300,7 @@ pub fn quarter_pixel_refine_luma(
     refine_luma(
         plane,
         s,
-        &src_y,
+        src_y,
         half_pixel_center,
         QUARTER_PIXEL_STEP as u32,
     )

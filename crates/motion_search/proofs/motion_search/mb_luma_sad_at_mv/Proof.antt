@@ -4,9 +4,6 @@ use Rattle.motion_search.proofs.Accepted.{grid-one}
 use Rattle.motion_search.proofs.motion_search.mb_luma_sad_at_mv.Statement.{statement}
 use Rattle.motion_search.proofs.motion_search.mb_luma_sad_at_mv.Tie as tie
 
-slice-aggregate-sad-luma : tie.Need-slice-aggregate-sad-luma
-slice-aggregate-sad-luma c = search needs
-
 sad-luma-requires : tie.Need-sad-luma-requires
 sad-luma-requires c κs = search needs
 
@@ -14,4 +11,4 @@ returns : tie.Need-returns
 returns c = rw (grid-one (c .before .before .before .args .mv)) at (c .sad-luma .ensures)
 
 pub mb-luma-sad-at-mv-spec : {M : Type 1} → statement M
-mb-luma-sad-at-mv-spec = tie.close (tie.spec slice-aggregate-sad-luma sad-luma-requires returns)
+mb-luma-sad-at-mv-spec = tie.close (tie.spec sad-luma-requires returns)

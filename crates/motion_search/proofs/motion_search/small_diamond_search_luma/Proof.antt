@@ -35,21 +35,17 @@ returns-3 c =
     (pass _ _ _ _ (short-line (a .plane .now) (a .stride) (a .width) (a .height) _ (e2 .before .short-plane .ensures) ∙ e2 .if2 .left)
     (hit _ _ _ (sym (c .before .bad-macroblock .ensures) ∙ c .if3 .taken)))
 
-slice-aggregate-small-diamond : tie.Need-slice-aggregate-small-diamond
-slice-aggregate-small-diamond c = search needs
-
 small-diamond-requires : tie.Need-small-diamond-requires
 small-diamond-requires c κs =
     let e3 = c .before in
     let e2 = e3 .before .before in
     let e1 = e2 .before .before in
     let a = e1 .before .before .before .args in
-    let long = e1 .before .before .before .good .1 .1 .1 .1 .1 .1 .0 in
     record {
       size = sym (e1 .before .bad-size .ensures) ∙ e1 .if1 .left;
       long = short-line (a .plane .now) (a .stride) (a .width) (a .height) _ (e2 .before .short-plane .ensures) ∙ e2 .if2 .left;
       place = sym (e3 .before .bad-macroblock .ensures) ∙ e3 .if3 .left;
-      source = omega (arith, long);
+      source = search needs;
     }
 
 returns-4 : tie.Need-returns-4
@@ -73,6 +69,5 @@ small-diamond-search-luma-spec =
     returns-2
     bad-macroblock-requires
     returns-3
-    slice-aggregate-small-diamond
     small-diamond-requires
     returns-4)

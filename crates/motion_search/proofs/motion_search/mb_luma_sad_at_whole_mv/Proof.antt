@@ -1,0 +1,54 @@
+-- `mb_luma_sad_at_whole_mv` meets its contract. Assumes nothing.
+use mathlib.Core.Path.{refl, ap, _∙_}
+use Prim.Native.Nat.{ℕ}
+use borrow.Author.Needs.{needs}
+use Rattle.laws.specs.Outcome.{accepted}
+use Rattle.motion_search.specs.declared.site.Site.{Site}
+use Rattle.motion_search.specs.Conditions.{costAt}
+use Rattle.motion_search.proofs.Checks.{still-refused, linesOf, ready, whole-here, counts}
+use Rattle.motion_search.proofs.motion_search.mb_luma_sad_at_whole_mv.Statement.{statement}
+use Rattle.motion_search.proofs.motion_search.mb_luma_sad_at_whole_mv.Tie as tie
+
+cast-checked : tie.Need-cast-checked
+cast-checked c = search needs
+
+checked-requires : tie.Need-checked-requires
+checked-requires c κs = search needs
+
+enum-told : tie.Need-enum-told
+enum-told c = search needs
+
+-- the site of the macroblock
+abbrev site : (stride width height column row : ℕ) → Site
+site stride width height column row = record { stride = stride; width = width; height = height; column = column; row = row }
+
+whole-sad-requires : tie.Need-whole-sad-requires
+whole-sad-requires c κs =
+    let a = c .before .before .before .before .before .args in
+    let e = c .before .before .before .checked in
+    let t = c .before .enum-told .given .1 in
+    let s = site (a .stride) (a .width) (a .height) (a .mb-col) (a .mb-row) in
+    (
+      ready 4 (a .plane .now) s (a .mv) (e .result) _ (e .ensures) t (a .src-y .now) (search needs),
+      whole-here 4 (a .plane .now) s (a .mv) (e .result) _ (e .ensures) t refl,
+    )
+
+returns : tie.Need-returns
+returns c =
+    let a = c .before .before .before .before .before .before .args in
+    let e = c .before .before .before .before .checked in
+    let s = site (a .stride) (a .width) (a .height) (a .mb-col) (a .mb-row) in
+    ap accepted (c .whole-sad .ensures)
+    ∙ counts 4 (a .plane .now) s (a .mv) (e .result) _ (e .ensures) (c .before .before .enum-told .given .1) (costAt (a .plane .now) s (a .src-y .now) (a .mv))
+
+returns-2 : tie.Need-returns-2
+returns-2 c =
+    let a = c .before .before .before .args in
+    let s = site (a .stride) (a .width) (a .height) (a .mb-col) (a .mb-row) in
+    still-refused (linesOf 4 (a .plane .now) s (a .mv)) (costAt (a .plane .now) s (a .src-y .now) (a .mv)) (c .before .checked .result)
+    (c .match .keys2) (c .before .checked .ensures)
+
+pub mb-luma-sad-at-whole-mv-spec : {M : Type 1} → statement M
+mb-luma-sad-at-whole-mv-spec =
+    tie.close
+    (tie.spec cast-checked checked-requires enum-told whole-sad-requires returns returns-2)
