@@ -4,9 +4,10 @@ use mathlib.Core.Bool.{false}
 use mathlib.Core.List.{List}
 use Prim.Native.Nat.{ℕ, _+_, _-_, _*_, _%_, _≤_}
 use lib.IntN.{ℤ, natAbs}
-use lib.ListN.{length}
+use lib.ListN.{length, getD}
 use Rattle.laws.specs.Signed.{above, below}
 use Rattle.prediction.specs.declared.motion_vector.Mv.{Mv}
+use Rattle.prediction.specs.Samples.{distance}
 use Rattle.prediction.specs.Vector.{doubled, fractionOf}
 use Rattle.prediction.specs.Plane.{Plane, lumaPlane, sampleAt}
 use Rattle.prediction.specs.Filter.{sixtap}
@@ -73,3 +74,7 @@ pub record Good (cost : Mv → ℕ) (best : DiamondResult) : Type 0 where
 pub record Room (step : ℕ) (v : Mv) : Type 0 where
   pub row : natAbs (v .row) + step ≤ 1023
   pub col : natAbs (v .col) + step ≤ 1023
+
+-- the differences at column k of two rows of a block, which follow one another, and two rows of a plane
+abbrev pub twoApart : List ℕ → List ℕ → List ℕ → ℕ → ℕ
+twoApart a b c k = distance (getD a k 0) (getD b k 0) + distance (getD a (k + 16) 0) (getD c k 0)

@@ -17,23 +17,23 @@ ghost use Rattle.laws.specs.Sums.{sumBelow};
 ghost use Rattle.prediction.specs.Samples.{distance};
 ghost use Rattle.prediction.specs.Vector.{wholeOf};
 ghost use Rattle.motion_search.specs.Sad.{sad16};
-ghost use Rattle.motion_search.specs.Conditions.{costAt, copiedAt, predictedFrom, Ready, Copied, Inside};
+ghost use Rattle.motion_search.specs.Conditions.{costAt, copiedAt, predictedFrom, Ready, Copied, Inside, twoApart};
 
-// The SAD of two rows of 16 samples.
-fn row_sad(a: &[u8], b: &[u8]) -> u32
-    requires { ⌜ (length (now a) ≡ 16) × (length (now b) ≡ 16) ⌝ }
-    ensures { λ r. ⌜ (r ≡ sumBelow (λ k. distance (getD (now (a .entry)) k 0) (getD (now (b .entry)) k 0)) 16) × (r ≤ 4080) ⌝ }
+// The SAD of two rows of a block, which follow one another, and of two rows of a plane.
+fn two_rows_sad(a: &[u8], b: &[u8], c: &[u8]) -> u32
+    requires { ⌜ (length (now a) ≡ 32) × (length (now b) ≡ 16) × (length (now c) ≡ 16) ⌝ }
+    ensures { λ r. ⌜ (r ≡ sumBelow (twoApart (now (a .entry)) (now (b .entry)) (now (c .entry))) 16) × (r ≤ 8160) ⌝ }
 {
     let mut sum: u32 = 0;
     let mut k = 0;
     while k < 16 {
-        sum += abs_diff(a[k], b[k]) as u32;
+        sum += abs_diff(a[k], b[k]) as u32 + abs_diff(a[k + 16], c[k]) as u32;
         k += 1;
     }
     sum
 }
 
-// The SAD of a block and of 16 rows of 16 samples of a plane, from a place on.
+// The SAD of a block and of 16 rows of 16 samples of a plane, from a place on: two rows a turn.
 fn rows_sad(src: &[u8], plane: &[u8], at: usize, stride: usize) -> u32
     requires { ⌜ (length (now src) ≡ 256) × (at + 15 * stride + 16 ≤ length (now plane)) ⌝ }
     ensures { λ r. ⌜ r ≡ sumBelow (λ i. distance (getD (now (src .entry)) i 0) (getD (now (plane .entry)) (at + i / 16 * stride + i % 16) 0)) 256 ⌝ }
@@ -43,8 +43,9 @@ fn rows_sad(src: &[u8], plane: &[u8], at: usize, stride: usize) -> u32
     while r < 16 {
         let i = r * 16;
         let j = at + r * stride;
-        sum += row_sad(&src[i..i + 16], &plane[j..j + 16]);
-        r += 1;
+        let n = j + stride;
+        sum += two_rows_sad(&src[i..i + 32], &plane[j..j + 16], &plane[n..n + 16]);
+        r += 2;
     }
     sum
 }

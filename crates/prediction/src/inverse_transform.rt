@@ -19,5 +19,9 @@ pub fn clamp255(v: i32) -> u8
 pub fn abs_diff(a: u8, b: u8) -> u8
     ensures { λ r. ⌜ r ≡ distance a b ⌝ }
 {
-    if a < b { b - a } else { a - b }
+    let d = (a as i32) - (b as i32);
+    if d < 0 {
+        return (0 - d) as u8;
+    }
+    d as u8
 }
