@@ -10,6 +10,7 @@ ghost use Rattle.window.specs.Refusals.{sizeOf, checks, checkedOutcome, 
 ghost use Rattle.window.specs.Steps.{sizeDiffers, planesUnfit, firstFrame};
 
 // A frame: its size, where its planes start in the picture bytes, and the bytes from row to row.
+#[repr(C)]
 pub struct Frame {
     pub width: u32,
     pub height: u32,

@@ -1,0 +1,210 @@
+// Weights, configurations, frames as numbers and the builders for C.
+use crate::answers::Build;
+use arnr::ArnrConfig;
+use arnr::BuildAnswer;
+use window::Checked;
+use window::Frame;
+use window::Refusal;
+ghost use mathlib.Core.Path.{_≡_};
+ghost use Prim.Native.Nat.{min};
+ghost use Rattle.laws.specs.Tabulate.{tabulate};
+ghost use Rattle.weights.specs.Weights.{scale, weightRead};
+ghost use Rattle.weights.specs.Blend.{distanceBound};
+ghost use Rattle.window.specs.Frames.{frameCount, frameAt};
+ghost use Rattle.window.specs.Refusals.{given, checks, checkedOutcome, refusalOutcome};
+ghost use Rattle.arnr.specs.Demand.{Held};
+ghost use Rattle.arnr.specs.Build.{asked, BuildInput, buildOutcome};
+ghost use Rattle.model.specs.Answers.{build, buildNumbers, checkNumbers};
+ghost use Rattle.model.specs.Builders.{BuildExport};
+
+#[no_mangle]
+pub extern "C" fn vp8model_curve(strength: u8, curve: &mut [u32; 256])
+    ensures { λ _. ⌜ now (curve .exit) ≡ tabulate 256 (weightRead strength) ⌝ }
+{
+    *curve = weights::curve(strength);
+}
+
+#[no_mangle]
+pub extern "C" fn vp8model_weight(strength: u8, e: u8) -> u32
+    ensures { λ r. ⌜ r ≡ weightRead strength e ⌝ }
+{
+    weights::weight(strength, e)
+}
+
+#[no_mangle]
+pub extern "C" fn vp8model_scale_of(strength: u8) -> u32
+    ensures { λ r. ⌜ r ≡ scale (min strength 6) ⌝ }
+{
+    weights::scale_of(strength)
+}
+
+#[no_mangle]
+pub extern "C" fn vp8model_distance_bound(n: u32, strength: u8) -> u32
+    ensures { λ r. ⌜ r ≡ distanceBound (weightRead strength) n ⌝ }
+{
+    weights::distance_bound(n, strength)
+}
+
+#[no_mangle]
+pub extern "C" fn vp8model_arnr_config_new(strength: u8) -> u8
+    ensures { λ r. ⌜ r ≡ min strength 6 ⌝ }
+{
+    let config = ArnrConfig::new(strength);
+    config.strength
+}
+
+#[no_mangle]
+pub extern "C" fn vp8model_arnr_config_default() -> u8
+    ensures { λ r. ⌜ r ≡ 3 ⌝ }
+{
+    let config = ArnrConfig::default();
+    config.strength
+}
+
+#[no_mangle]
+pub extern "C" fn vp8model_arnr_config_with_strength(config: u8, v: u8) -> u8
+    ensures { λ r. ⌜ r ≡ v ⌝ }
+{
+    let old = ArnrConfig { strength: config };
+    let new = old.with_strength(v);
+    new.strength
+}
+
+#[no_mangle]
+pub extern "C" fn vp8model_frame_count(numbers: &[u32]) -> usize
+    ensures { λ r. ⌜ r ≡ frameCount (now (numbers .entry)) ⌝ }
+{
+    window::frame_count(numbers)
+}
+
+#[no_mangle]
+pub extern "C" fn vp8model_frame_at(numbers: &[u32], g: usize) -> Frame
+    ensures { λ r. ⌜ r ≡ frameAt (now (numbers .entry)) g ⌝ }
+{
+    window::frame_at(numbers, g)
+}
+
+// The numbers of a refusal.
+fn refusal_numbers(refusal: Refusal) -> Build
+    ensures { λ r. ⌜ r ≡ buildNumbers (refusalOutcome refusal) ⌝ }
+{
+    let mut b = Build {
+        refusal: 0,
+        width: 0,
+        height: 0,
+        accepted: 0,
+        other_width: 0,
+        other_height: 0,
+        frame: 0,
+    };
+    match refusal {
+        Refusal::NoCentre => {
+            b.refusal = 1;
+        }
+        Refusal::TooManyFrames => {
+            b.refusal = 2;
+        }
+        Refusal::BadSize(size) => {
+            b.refusal = 3;
+            b.width = size.width;
+            b.height = size.height;
+        }
+        Refusal::OtherSize(size, centre) => {
+            b.refusal = 4;
+            b.width = centre.width;
+            b.height = centre.height;
+            b.other_width = size.width;
+            b.other_height = size.height;
+        }
+        Refusal::PlaneUnfit(frame) => {
+            b.refusal = 5;
+            b.frame = frame;
+        }
+        Refusal::ShortOutput => {
+            b.refusal = 6;
+        }
+        Refusal::ShortWorking => {
+            b.refusal = 7;
+        }
+    }
+    b
+}
+
+// The numbers of an accepted call.
+fn accepted_numbers(width: u32, height: u32, blocks: u32) -> Build
+    ensures { λ r. ⌜ r ≡ build 0 width height blocks 0 0 0 ⌝ }
+{
+    Build {
+        refusal: 0,
+        width: width,
+        height: height,
+        accepted: blocks,
+        other_width: 0,
+        other_height: 0,
+        frame: 0,
+    }
+}
+
+// The numbers of what the checks find.
+fn check_numbers(checked: Checked) -> Build
+    ensures { λ r. ⌜ r ≡ checkNumbers (checkedOutcome checked) ⌝ }
+{
+    match checked {
+        Checked::Legal(size) => accepted_numbers(size.width, size.height, 0),
+        Checked::Refused(refusal) => refusal_numbers(refusal),
+    }
+}
+
+// The numbers of a builder's answer.
+fn build_numbers(answer: BuildAnswer) -> Build
+    ensures { λ r. ⌜ r ≡ buildNumbers (buildOutcome answer) ⌝ }
+{
+    match answer {
+        BuildAnswer::Done(b) => accepted_numbers(b.width, b.height, b.accepted),
+        BuildAnswer::Refused(refusal) => refusal_numbers(refusal),
+    }
+}
+
+#[no_mangle]
+pub extern "C" fn vp8model_check_build(
+    bytes: &[u8],
+    numbers: &[u32],
+    centre: usize,
+    output_len: usize,
+    sums_len: usize,
+    weights_len: usize,
+) -> Build
+    ensures { λ r.
+        ⌜ r ≡ checkNumbers (checks (given (now (bytes .entry)) (now (numbers .entry)) centre «output_len» «sums_len» «weights_len»)) ⌝ }
+{
+    let checked = window::check_build(bytes, numbers, centre, output_len, sums_len, weights_len);
+    check_numbers(checked)
+}
+
+#[no_mangle]
+pub extern "C" fn vp8model_build_from_numbers(
+    bytes: &[u8],
+    numbers: &[u32],
+    centre: usize,
+    strength: u8,
+    output: &mut [u8],
+    sums: &mut [u32],
+    weights: &mut [u32],
+) -> Build
+    ensures { λ r. ⌜ BuildExport (record {
+      request = asked (now (bytes .entry)) (now (numbers .entry)) centre strength;
+      lent = record {
+        output = now (output .entry);
+        sums = now (sums .entry);
+        weights = now (weights .entry);
+      };
+    }) r (record {
+      output = now (output .exit);
+      sums = now (sums .exit);
+      weights = now (weights .exit);
+    }) ⌝ }
+{
+    let config = ArnrConfig { strength: strength };
+    let answer = arnr::build_from_numbers(bytes, numbers, centre, config, output, sums, weights);
+    build_numbers(answer)
+}

@@ -1,0 +1,209 @@
+/*
+ * A proved model of a VP8 encoder's picture pre-filter and luma motion search, for C and C++.
+ *
+ * Link target/staticlib/libmodel.a, which `rt staticlib model` writes (x86-64).
+ *
+ * Any numbers may be passed. A pointer and its length name a lent slice, whose bytes are readable, and
+ * writable where it is not const; it is aligned as its type asks, and where its length is 0 the pointer
+ * still is not null. A writable slice shares no byte with another argument. Fixed arrays have the length
+ * that is written.
+ *
+ * The first field of a result is `refusal`: 0 where the call is accepted, else the number of the first
+ * refusal that applies. Every field that the refusal does not name is then 0, and every lent slice and
+ * array holds what it held before. Calls that are never refused give their number as it is.
+ *
+ *   1  the centre index is not below the frame count
+ *   2  the frame count exceeds 1024
+ *   3  the centre's width or height is 0 or above 16383: width, height
+ *   4  a frame's size differs from the centre's: other_width, other_height of the first such frame,
+ *      width, height of the centre
+ *   5  a plane does not fit the picture bytes: frame, the index of the first such frame
+ *   6  the output slice is shorter than P, the samples of all three planes
+ *   7  either of the two working slices is shorter than P
+ *   8  the reference width or height is 0 or above 16383
+ *   9  the reference plane is shorter than (height - 1) * stride + width
+ *  10  a macroblock column or row exceeds 1023, or a fetch's pixel origin exceeds 16368 in either direction
+ *  11  a component of a vector to be measured or refined is outside -1023..1023
+ *  12  a component is not a multiple of 4 (whole-pixel SAD, half refinement) or of 2 (quarter refinement)
+ *  13  a filter selector exceeds 7
+ */
+#ifndef VP8MODEL_H
+#define VP8MODEL_H
+
+#include <stddef.h>
+#include <stdint.h>
+
+#ifdef __cplusplus
+extern "C" {
+#endif
+
+#define VP8MODEL_MV_MIN (-1023)
+#define VP8MODEL_MV_MAX 1023
+#define VP8MODEL_WHOLE_PIXEL_STEP 4
+#define VP8MODEL_HALF_PIXEL_STEP 2
+#define VP8MODEL_QUARTER_PIXEL_STEP 1
+#define VP8MODEL_MAX_STRENGTH 6
+#define VP8MODEL_NUMBERS_PER_FRAME 7
+
+/* Whether a call that fills an array was accepted. */
+typedef struct vp8model_status {
+    uint32_t refusal;
+} vp8model_status;
+
+/* One filtered sample. */
+typedef struct vp8model_sample {
+    uint32_t refusal;
+    uint32_t sample;
+} vp8model_sample;
+
+/* A motion vector; refusal is always 0. */
+typedef struct vp8model_vector {
+    uint32_t refusal;
+    int16_t row;
+    int16_t col;
+} vp8model_vector;
+
+/* The sum of absolute differences (SAD) of a macroblock, 0 to 65280. */
+typedef struct vp8model_sad {
+    uint32_t refusal;
+    uint32_t sad;
+} vp8model_sad;
+
+/* The best vector of a refinement, in quarter pixels, and its SAD. */
+typedef struct vp8model_search {
+    uint32_t refusal;
+    int16_t row;
+    int16_t col;
+    uint32_t sad;
+} vp8model_search;
+
+/* The diamond's last best and its SAD; the SADs computed, the first included; the rounds made, the last
+ * one without a move included. */
+typedef struct vp8model_diamond {
+    uint32_t refusal;
+    int16_t row;
+    int16_t col;
+    uint32_t sad;
+    uint32_t sads;
+    uint32_t rounds;
+} vp8model_diamond;
+
+/* A frame: its size, where its planes start in the picture bytes, and the bytes from row to row. */
+typedef struct vp8model_frame {
+    uint32_t width;
+    uint32_t height;
+    uint32_t y;
+    uint32_t u;
+    uint32_t v;
+    uint32_t luma_stride;
+    uint32_t chroma_stride;
+} vp8model_frame;
+
+/* A builder's answer: the picture's size and the accepted blocks over all other frames, or a refusal's
+ * values (see the table above). */
+typedef struct vp8model_build {
+    uint32_t refusal;
+    uint32_t width;
+    uint32_t height;
+    uint32_t accepted;
+    uint32_t other_width;
+    uint32_t other_height;
+    uint32_t frame;
+} vp8model_build;
+
+/* Samples and vectors. A vector is in quarter pixels; stored, it is in eighths: each component doubled,
+ * wrapping. whole_offset and fraction take a component in eighths. */
+uint8_t vp8model_clamp255(int32_t v);
+uint8_t vp8model_abs_diff(uint8_t a, uint8_t b);
+vp8model_vector vp8model_stored_luma_mv(int16_t row, int16_t col);
+int32_t vp8model_whole_offset(int16_t v);
+uint32_t vp8model_fraction(int16_t v);
+
+/* 0: the six-tap rows, 1: the bilinear rows. */
+uint32_t vp8model_filter_set_for_version(uint8_t version);
+
+/* One sample by the six-tap row of a selector, and a macroblock from its halo: selector mx across, then
+ * my down. Refusal 13. */
+vp8model_sample vp8model_interp(uint32_t selector, const uint8_t support[6]);
+vp8model_status vp8model_sixtap_mb_luma(const uint8_t halo[441], uint32_t mx, uint32_t my,
+                                        uint8_t block[256]);
+
+/* Whether refusal 8, or refusal 9 at a plane of `len` bytes, applies: 1 or 0. */
+uint8_t vp8model_bad_size(size_t width, size_t height);
+uint8_t vp8model_short_plane(size_t len, size_t stride, size_t width, size_t height);
+
+/* The macroblock, or its halo, at pixel origin (x, y) moved by the whole offset of a vector in eighths.
+ * Refusals 8 to 10. */
+vp8model_status vp8model_fetch_luma_mb_whole_pixel(const uint8_t *plane, size_t plane_len, size_t stride,
+                                                   size_t width, size_t height, size_t x, size_t y,
+                                                   int16_t mv_row, int16_t mv_col, uint8_t block[256]);
+vp8model_status vp8model_fetch_luma_mb_halo(const uint8_t *plane, size_t plane_len, size_t stride,
+                                            size_t width, size_t height, size_t x, size_t y,
+                                            int16_t mv_row, int16_t mv_col, uint8_t halo[441]);
+
+/* SADs of a source macroblock and its prediction. Refusals 8 to 12; the one at any vector never gives 12. */
+uint32_t vp8model_block_sad_16x16(const uint8_t src[256], const uint8_t pred[256]);
+vp8model_sad vp8model_mb_luma_sad_at_whole_mv(const uint8_t *plane, size_t plane_len, size_t stride,
+                                              size_t width, size_t height, size_t mb_col, size_t mb_row,
+                                              const uint8_t src_y[256], int16_t mv_row, int16_t mv_col);
+vp8model_sad vp8model_mb_luma_sad_at_mv(const uint8_t *plane, size_t plane_len, size_t stride,
+                                        size_t width, size_t height, size_t mb_col, size_t mb_row,
+                                        const uint8_t src_y[256], int16_t mv_row, int16_t mv_col);
+
+/* The small diamond around any centre, at most max_iters rounds: refusals 8 to 10. Half and quarter
+ * refinement of a centre: refusals 8 to 12. */
+vp8model_diamond vp8model_small_diamond_search_luma(const uint8_t *plane, size_t plane_len, size_t stride,
+                                                    size_t width, size_t height, size_t mb_col,
+                                                    size_t mb_row, const uint8_t src_y[256],
+                                                    int16_t center_row, int16_t center_col,
+                                                    uint32_t max_iters);
+vp8model_search vp8model_half_pixel_refine_luma(const uint8_t *plane, size_t plane_len, size_t stride,
+                                                size_t width, size_t height, size_t mb_col, size_t mb_row,
+                                                const uint8_t src_y[256], int16_t center_row,
+                                                int16_t center_col);
+vp8model_search vp8model_quarter_pixel_refine_luma(const uint8_t *plane, size_t plane_len, size_t stride,
+                                                   size_t width, size_t height, size_t mb_col,
+                                                   size_t mb_row, const uint8_t src_y[256],
+                                                   int16_t center_row, int16_t center_col);
+
+/* The weights of the differences 0 to 255 at a strength, one of them, the scale, and how far n other
+ * frames can move a sample. */
+void vp8model_curve(uint8_t strength, uint32_t curve[256]);
+uint32_t vp8model_weight(uint8_t strength, uint8_t e);
+uint32_t vp8model_scale_of(uint8_t strength);
+uint32_t vp8model_distance_bound(uint32_t n, uint8_t strength);
+
+/* A configuration is its strength byte: new stores at most 6, default is 3, with_strength stores v. */
+uint8_t vp8model_arnr_config_new(uint8_t strength);
+uint8_t vp8model_arnr_config_default(void);
+uint8_t vp8model_arnr_config_with_strength(uint8_t config, uint8_t v);
+
+/* Frames as seven numbers each, in the order of vp8model_frame: how many there are (numbers left over are
+ * not read), and frame g (numbers past the end are 0). */
+size_t vp8model_frame_count(const uint32_t *numbers, size_t numbers_len);
+vp8model_frame vp8model_frame_at(const uint32_t *numbers, size_t numbers_len, size_t g);
+
+/* The builder's checks alone, by the lengths of its three lent slices; accepted is 0. */
+vp8model_build vp8model_check_build(const uint8_t *bytes, size_t bytes_len, const uint32_t *numbers,
+                                    size_t numbers_len, size_t centre, size_t output_len, size_t sums_len,
+                                    size_t weights_len);
+
+/* The builder over numbers and over records. Refusals 1 to 7. The first P entries of output are then Y, U
+ * and V, packed; those of sums and weights the sums and total weights, unless the centre is only cropped
+ * (one frame, or strength 0), where they are unchanged. Entries past P are unchanged. */
+vp8model_build vp8model_build_from_numbers(const uint8_t *bytes, size_t bytes_len,
+                                           const uint32_t *numbers, size_t numbers_len, size_t centre,
+                                           uint8_t strength, uint8_t *output, size_t output_len,
+                                           uint32_t *sums, size_t sums_len, uint32_t *weights,
+                                           size_t weights_len);
+vp8model_build vp8model_build_arnr_altref(const uint8_t *bytes, size_t bytes_len,
+                                          const vp8model_frame *frames, size_t frames_len, size_t centre,
+                                          uint8_t strength, uint8_t *output, size_t output_len,
+                                          uint32_t *sums, size_t sums_len, uint32_t *weights,
+                                          size_t weights_len);
+
+#ifdef __cplusplus
+}
+#endif
+
+#endif
