@@ -14,6 +14,7 @@ ghost use Rattle.window.specs.Frames.{frameCount, frameAt};
 ghost use Rattle.window.specs.Refusals.{given, checks, checkedOutcome, refusalOutcome};
 ghost use Rattle.arnr.specs.Demand.{Held};
 ghost use Rattle.arnr.specs.Build.{asked, BuildInput, buildOutcome};
+ghost use Rattle.altref.specs.Records.{flat};
 ghost use Rattle.model.specs.Answers.{build, buildNumbers, checkNumbers};
 ghost use Rattle.model.specs.Builders.{BuildExport};
 
@@ -206,5 +207,33 @@ pub extern "C" fn vp8model_build_from_numbers(
 {
     let config = ArnrConfig { strength: strength };
     let answer = arnr::build_from_numbers(bytes, numbers, centre, config, output, sums, weights);
+    build_numbers(answer)
+}
+
+#[no_mangle]
+pub extern "C" fn vp8model_build_arnr_altref(
+    bytes: &[u8],
+    frames: &[Frame],
+    centre: usize,
+    strength: u8,
+    output: &mut [u8],
+    sums: &mut [u32],
+    weights: &mut [u32],
+) -> Build
+    ensures { λ r. ⌜ BuildExport (record {
+      request = asked (now (bytes .entry)) (flat (now (frames .entry))) centre strength;
+      lent = record {
+        output = now (output .entry);
+        sums = now (sums .entry);
+        weights = now (weights .entry);
+      };
+    }) r (record {
+      output = now (output .exit);
+      sums = now (sums .exit);
+      weights = now (weights .exit);
+    }) ⌝ }
+{
+    let config = ArnrConfig { strength: strength };
+    let answer = altref::build_arnr_altref(bytes, frames, centre, config, output, sums, weights);
     build_numbers(answer)
 }
