@@ -1,0 +1,741 @@
+/*
+ * Calls every function of vp8model.h, accepted and refused, and holds the answers against values worked out by
+ * hand from document 01. Every slice and array is lent from between guard entries. On a refusal, and for const
+ * arguments always, the lent entries are as they were.
+ *
+ * Prints one line, `calls: N checks, M failed`, after a line for each check that fails. C11 and C++.
+ */
+#include "vp8model.h"
+
+#include <stdio.h>
+#include <string.h>
+
+static unsigned checks;
+static unsigned failed;
+
+static void check(int holds, const char *what, int line)
+{
+    checks++;
+    if (!holds) {
+        failed++;
+        printf("line %d: %s\n", line, what);
+    }
+}
+
+#define CHECK(holds) check((holds) ? 1 : 0, #holds, __LINE__)
+
+/* Lent entries: guards on both sides, and a copy of what was lent. */
+
+#define GUARD 16
+#define MOST 40000
+#define BYTE_MARK 0xA5
+#define WORD_MARK 0xA5A5A5A5u
+
+typedef struct bytes {
+    uint8_t room[GUARD + MOST + GUARD];
+    uint8_t kept[MOST];
+    size_t length;
+} bytes;
+
+typedef struct words {
+    uint32_t room[GUARD + MOST + GUARD];
+    uint32_t kept[MOST];
+    size_t length;
+} words;
+
+static uint8_t *at_bytes(bytes *b)
+{
+    return b->room + GUARD;
+}
+
+static uint32_t *at_words(words *w)
+{
+    return w->room + GUARD;
+}
+
+static void lend_bytes(bytes *b, size_t length, uint8_t value)
+{
+    memset(b->room, BYTE_MARK, sizeof b->room);
+    memset(at_bytes(b), value, length);
+    memset(b->kept, value, length);
+    b->length = length;
+}
+
+static void lend_words(words *w, size_t length, uint32_t value)
+{
+    for (size_t i = 0; i < GUARD + MOST + GUARD; i++)
+        w->room[i] = WORD_MARK;
+    for (size_t i = 0; i < length; i++) {
+        w->room[GUARD + i] = value;
+        w->kept[i] = value;
+    }
+    w->length = length;
+}
+
+/* What is lent now is what has to be there after the call. */
+static void keep_bytes(bytes *b)
+{
+    memcpy(b->kept, at_bytes(b), b->length);
+}
+
+static void keep_words(words *w)
+{
+    memcpy(w->kept, at_words(w), w->length * sizeof w->kept[0]);
+}
+
+static int guarded_bytes(const bytes *b)
+{
+    for (size_t i = 0; i < GUARD + MOST + GUARD; i++)
+        if ((i < GUARD || GUARD + b->length <= i) && b->room[i] != BYTE_MARK)
+            return 0;
+    return 1;
+}
+
+static int guarded_words(const words *w)
+{
+    for (size_t i = 0; i < GUARD + MOST + GUARD; i++)
+        if ((i < GUARD || GUARD + w->length <= i) && w->room[i] != WORD_MARK)
+            return 0;
+    return 1;
+}
+
+static int same_bytes(const bytes *b)
+{
+    return guarded_bytes(b) && memcmp(b->room + GUARD, b->kept, b->length) == 0;
+}
+
+static int same_words(const words *w)
+{
+    return guarded_words(w) && memcmp(w->room + GUARD, w->kept, w->length * sizeof w->kept[0]) == 0;
+}
+
+/* The entries from `from` to `to` are `value`. */
+static int all_bytes(const bytes *b, size_t from, size_t to, uint8_t value)
+{
+    for (size_t i = from; i < to; i++)
+        if (b->room[GUARD + i] != value)
+            return 0;
+    return 1;
+}
+
+static int all_words(const words *w, size_t from, size_t to, uint32_t value)
+{
+    for (size_t i = from; i < to; i++)
+        if (w->room[GUARD + i] != value)
+            return 0;
+    return 1;
+}
+
+static bytes plane, source, block, picture, output;
+static words numbers, sums, weights, curve;
+
+/* Frame records, one guard record on each side. */
+#define FRAMES_MOST 1025
+
+static vp8model_frame records[1 + FRAMES_MOST + 1];
+static vp8model_frame records_kept[1 + FRAMES_MOST + 1];
+
+/* The builders, alike: which one is called, and with how many numbers. */
+
+enum builder { CHECKS_ONLY, FROM_NUMBERS, FROM_RECORDS };
+
+static const vp8model_frame guard_record = {WORD_MARK, WORD_MARK, WORD_MARK, WORD_MARK,
+                                            WORD_MARK, WORD_MARK, WORD_MARK};
+
+/* The records of the numbers that are lent. */
+static size_t lend_records(void)
+{
+    size_t count = numbers.length / VP8MODEL_NUMBERS_PER_FRAME;
+    for (size_t g = 0; g < 1 + FRAMES_MOST + 1; g++)
+        records[g] = guard_record;
+    for (size_t g = 0; g < count; g++) {
+        const uint32_t *n = at_words(&numbers) + g * VP8MODEL_NUMBERS_PER_FRAME;
+        vp8model_frame f = {n[0], n[1], n[2], n[3], n[4], n[5], n[6]};
+        records[1 + g] = f;
+    }
+    memcpy(records_kept, records, sizeof records);
+    return count;
+}
+
+static vp8model_build build(enum builder which, size_t centre, uint8_t strength)
+{
+    if (which == CHECKS_ONLY)
+        return vp8model_check_build(at_bytes(&picture), picture.length, at_words(&numbers),
+                                    numbers.length, centre, output.length, sums.length,
+                                    weights.length);
+    if (which == FROM_NUMBERS)
+        return vp8model_build_from_numbers(at_bytes(&picture), picture.length, at_words(&numbers),
+                                           numbers.length, centre, strength, at_bytes(&output),
+                                           output.length, at_words(&sums), sums.length,
+                                           at_words(&weights), weights.length);
+    return vp8model_build_arnr_altref(at_bytes(&picture), picture.length, records + 1,
+                                      lend_records(), centre, strength, at_bytes(&output),
+                                      output.length, at_words(&sums), sums.length,
+                                      at_words(&weights), weights.length);
+}
+
+/* All three lent slices, and what is only read, are as they were. */
+static int inputs_kept(enum builder which)
+{
+    return same_bytes(&picture) && same_words(&numbers)
+           && (which != FROM_RECORDS || memcmp(records, records_kept, sizeof records) == 0);
+}
+
+static int all_kept(enum builder which)
+{
+    return inputs_kept(which) && same_bytes(&output) && same_words(&sums) && same_words(&weights);
+}
+
+static int is_build(vp8model_build b, uint32_t refusal, uint32_t width, uint32_t height,
+                    uint32_t accepted, uint32_t other_width, uint32_t other_height, uint32_t frame)
+{
+    return b.refusal == refusal && b.width == width && b.height == height && b.accepted == accepted
+           && b.other_width == other_width && b.other_height == other_height && b.frame == frame;
+}
+
+#define REFUSES(which, centre, refusal, width, height, other_width, other_height, frame)          \
+    do {                                                                                          \
+        CHECK(is_build(build(which, centre, 1), refusal, width, height, 0, other_width,           \
+                       other_height, frame));                                                     \
+        CHECK(all_kept(which));                                                                   \
+    } while (0)
+
+/* No frames, no bytes, nothing lent: every centre index is out of range. */
+static void empty_window(void)
+{
+    lend_bytes(&picture, 0, 0);
+    lend_words(&numbers, 0, 0);
+    lend_bytes(&output, 0, 0);
+    lend_words(&sums, 0, 0);
+    lend_words(&weights, 0, 0);
+    for (int which = CHECKS_ONLY; which <= FROM_RECORDS; which++) {
+        REFUSES((enum builder)which, 0, 1, 0, 0, 0, 0, 0);
+        REFUSES((enum builder)which, SIZE_MAX, 1, 0, 0, 0, 0, 0);
+    }
+    CHECK(vp8model_frame_count(at_words(&numbers), 0) == 0);
+    vp8model_frame f = vp8model_frame_at(at_words(&numbers), 0, 0);
+    CHECK(f.width == 0 && f.height == 0 && f.y == 0 && f.u == 0 && f.v == 0);
+    CHECK(f.luma_stride == 0 && f.chroma_stride == 0);
+}
+
+static void samples_and_vectors(void)
+{
+    CHECK(vp8model_clamp255(INT32_MIN) == 0);
+    CHECK(vp8model_clamp255(-1) == 0);
+    CHECK(vp8model_clamp255(0) == 0);
+    CHECK(vp8model_clamp255(100) == 100);
+    CHECK(vp8model_clamp255(255) == 255);
+    CHECK(vp8model_clamp255(256) == 255);
+    CHECK(vp8model_clamp255(INT32_MAX) == 255);
+    CHECK(vp8model_abs_diff(3, 10) == 7);
+    CHECK(vp8model_abs_diff(10, 3) == 7);
+    CHECK(vp8model_abs_diff(255, 0) == 255);
+    vp8model_vector v = vp8model_stored_luma_mv(-1, 1023);
+    CHECK(v.refusal == 0 && v.row == -2 && v.col == 2046);
+    v = vp8model_stored_luma_mv(32767, -32768);
+    CHECK(v.refusal == 0 && v.row == -2 && v.col == 0);
+    CHECK(vp8model_whole_offset(-2) == -1);
+    CHECK(vp8model_whole_offset(2046) == 255);
+    CHECK(vp8model_whole_offset(-32768) == -4096);
+    CHECK(vp8model_fraction(-2) == 6);
+    CHECK(vp8model_fraction(2046) == 6);
+    CHECK(vp8model_fraction(16) == 0);
+    CHECK(vp8model_filter_set_for_version(0) == 0);
+    CHECK(vp8model_filter_set_for_version(1) == 1);
+    CHECK(vp8model_filter_set_for_version(255) == 1);
+}
+
+/* One sample by a selector from six lent samples. */
+static vp8model_sample interp(uint32_t selector, uint8_t a, uint8_t b, uint8_t c, uint8_t d, uint8_t e,
+                              uint8_t f)
+{
+    const uint8_t six[6] = {a, b, c, d, e, f};
+    lend_bytes(&source, 6, 0);
+    memcpy(at_bytes(&source), six, 6);
+    keep_bytes(&source);
+    vp8model_sample s = vp8model_interp(selector, at_bytes(&source));
+    CHECK(same_bytes(&source));
+    return s;
+}
+
+static void filtered_samples(void)
+{
+    vp8model_sample s = interp(4, 0, 0, 255, 255, 0, 0);
+    CHECK(s.refusal == 0 && s.sample == 255);
+    s = interp(4, 0, 255, 0, 0, 255, 0);
+    CHECK(s.refusal == 0 && s.sample == 0);
+    s = interp(2, 10, 20, 30, 40, 50, 60);
+    CHECK(s.refusal == 0 && s.sample == 32);
+    s = interp(7, 10, 20, 30, 40, 50, 60);
+    CHECK(s.refusal == 0 && s.sample == 39);
+    s = interp(8, 10, 20, 30, 40, 50, 60);
+    CHECK(s.refusal == 13 && s.sample == 0);
+    s = interp(UINT32_MAX, 10, 20, 30, 40, 50, 60);
+    CHECK(s.refusal == 13 && s.sample == 0);
+}
+
+static vp8model_status filter_mb(uint32_t mx, uint32_t my)
+{
+    lend_bytes(&block, 256, 9);
+    vp8model_status s = vp8model_sixtap_mb_luma(at_bytes(&source), mx, my, at_bytes(&block));
+    CHECK(same_bytes(&source));
+    CHECK(guarded_bytes(&block));
+    return s;
+}
+
+static void filtered_macroblocks(void)
+{
+    lend_bytes(&source, 441, 77);
+    CHECK(filter_mb(2, 6).refusal == 0);
+    CHECK(all_bytes(&block, 0, 256, 77));
+    for (size_t i = 0; i < 441; i++)
+        at_bytes(&source)[i] = (uint8_t)(i % 21 + 3 * (i / 21));
+    keep_bytes(&source);
+    CHECK(filter_mb(0, 0).refusal == 0);
+    for (size_t i = 0; i < 256; i++)
+        CHECK(at_bytes(&block)[i] == i % 16 + 2 + 3 * (i / 16 + 2));
+    /* across by a half: plus 1/2, rounded up; down by a half: plus 3/2, rounded up */
+    CHECK(filter_mb(4, 0).refusal == 0);
+    CHECK(at_bytes(&block)[0] == 2 + 6 + 1);
+    CHECK(filter_mb(0, 4).refusal == 0);
+    CHECK(at_bytes(&block)[0] == 2 + 6 + 2);
+    CHECK(filter_mb(8, 0).refusal == 13);
+    CHECK(same_bytes(&block));
+    CHECK(filter_mb(0, 8).refusal == 13);
+    CHECK(same_bytes(&block));
+    CHECK(filter_mb(UINT32_MAX, UINT32_MAX).refusal == 13);
+    CHECK(same_bytes(&block));
+}
+
+static void plane_refusals(void)
+{
+    CHECK(vp8model_bad_size(0, 1) == 1);
+    CHECK(vp8model_bad_size(1, 0) == 1);
+    CHECK(vp8model_bad_size(16383, 16383) == 0);
+    CHECK(vp8model_bad_size(16384, 1) == 1);
+    CHECK(vp8model_bad_size(1, 16384) == 1);
+    CHECK(vp8model_short_plane(255, 16, 16, 16) == 1);
+    CHECK(vp8model_short_plane(256, 16, 16, 16) == 0);
+    CHECK(vp8model_short_plane(16, SIZE_MAX, 16, 1) == 0);
+    CHECK(vp8model_short_plane(16, SIZE_MAX, 16, 2) == 1);
+    CHECK(vp8model_short_plane(16, 0, 16, 16383) == 0);
+}
+
+/* A plane of 48 by 48 whose sample at column x and row y is x + 3 y. */
+#define SIDE 48
+
+static uint8_t ramp(int x, int y)
+{
+    int column = x < 0 ? 0 : x < SIDE ? x : SIDE - 1;
+    int row = y < 0 ? 0 : y < SIDE ? y : SIDE - 1;
+    return (uint8_t)(column + 3 * row);
+}
+
+static void lend_ramp(void)
+{
+    lend_bytes(&plane, SIDE * SIDE, 0);
+    for (int y = 0; y < SIDE; y++)
+        for (int x = 0; x < SIDE; x++)
+            at_bytes(&plane)[y * SIDE + x] = ramp(x, y);
+    keep_bytes(&plane);
+}
+
+/* A fetch of n by n samples, 16 or 21, into the block. */
+static uint32_t fetch(int n, size_t length, size_t width, size_t height, size_t x, size_t y, int16_t row,
+                      int16_t col)
+{
+    lend_bytes(&block, (size_t)(n * n), 9);
+    vp8model_status s;
+    if (n == 16)
+        s = vp8model_fetch_luma_mb_whole_pixel(at_bytes(&plane), length, SIDE, width, height, x, y, row,
+                                               col, at_bytes(&block));
+    else
+        s = vp8model_fetch_luma_mb_halo(at_bytes(&plane), length, SIDE, width, height, x, y, row, col,
+                                        at_bytes(&block));
+    CHECK(same_bytes(&plane));
+    CHECK(guarded_bytes(&block));
+    return s.refusal;
+}
+
+/* The block is the plane's n by n samples from column x and row y on. */
+static int fetched(int n, int x, int y)
+{
+    for (int i = 0; i < n * n; i++)
+        if (at_bytes(&block)[i] != ramp(x + i % n, y + i / n))
+            return 0;
+    return 1;
+}
+
+static void fetches(void)
+{
+    lend_ramp();
+    for (int n = 16; n <= 21; n += 5) {
+        /* the halo starts two samples left and above */
+        int halo = n == 21 ? 2 : 0;
+        size_t all = SIDE * SIDE;
+        CHECK(fetch(n, all, SIDE, SIDE, 16, 16, 0, 0) == 0);
+        CHECK(fetched(n, 16 - halo, 16 - halo));
+        /* -1 eighth is one row up, 9 eighths are one column right */
+        CHECK(fetch(n, all, SIDE, SIDE, 16, 16, -1, 9) == 0);
+        CHECK(fetched(n, 17 - halo, 15 - halo));
+        CHECK(fetch(n, all, SIDE, SIDE, 0, 0, -32768, 32767) == 0);
+        CHECK(fetched(n, 4095 - halo, -4096 - halo));
+        CHECK(fetch(n, all, SIDE, SIDE, 16368, 16368, 0, 0) == 0);
+        CHECK(fetched(n, 16368 - halo, 16368 - halo));
+        CHECK(fetch(n, 0, 0, 0, 16369, 16369, 0, 0) == 8);
+        CHECK(same_bytes(&block));
+        CHECK(fetch(n, all, 16384, SIDE, 16, 16, 0, 0) == 8);
+        CHECK(same_bytes(&block));
+        CHECK(fetch(n, all - 1, SIDE, SIDE, 16369, 0, 0, 0) == 9);
+        CHECK(same_bytes(&block));
+        CHECK(fetch(n, all, SIDE, SIDE, 16369, 0, 0, 0) == 10);
+        CHECK(same_bytes(&block));
+        CHECK(fetch(n, all, SIDE, SIDE, 0, 16369, 0, 0) == 10);
+        CHECK(same_bytes(&block));
+    }
+}
+
+static void block_sads(void)
+{
+    lend_bytes(&source, 256, 5);
+    lend_bytes(&block, 256, 9);
+    CHECK(vp8model_block_sad_16x16(at_bytes(&source), at_bytes(&block)) == 1024);
+    CHECK(vp8model_block_sad_16x16(at_bytes(&block), at_bytes(&source)) == 1024);
+    CHECK(vp8model_block_sad_16x16(at_bytes(&source), at_bytes(&source)) == 0);
+    CHECK(same_bytes(&source) && same_bytes(&block));
+    lend_bytes(&source, 256, 255);
+    lend_bytes(&block, 256, 0);
+    CHECK(vp8model_block_sad_16x16(at_bytes(&source), at_bytes(&block)) == 65280);
+    CHECK(same_bytes(&source) && same_bytes(&block));
+}
+
+/* A searched macroblock, of column and row 1 unless a case says otherwise. */
+typedef struct place {
+    size_t length;
+    size_t width;
+    size_t height;
+    size_t mb_col;
+    size_t mb_row;
+} place;
+
+static const place here = {SIDE * SIDE, SIDE, SIDE, 1, 1};
+static const place no_size = {0, 0, 0, 1024, 1024};
+static const place one_short = {SIDE * SIDE - 1, SIDE, SIDE, 1024, 1};
+static const place far_column = {SIDE * SIDE, SIDE, SIDE, 1024, 1};
+static const place far_row = {SIDE * SIDE, SIDE, SIDE, 1, 1024};
+
+/* The source: the macroblock's samples moved dx columns right and dy rows down. */
+static void lend_source(int dx, int dy)
+{
+    lend_bytes(&source, 256, 0);
+    for (int i = 0; i < 256; i++)
+        at_bytes(&source)[i] = ramp(16 + i % 16 + dx, 16 + i / 16 + dy);
+    keep_bytes(&source);
+}
+
+static int is_sad(vp8model_sad s, uint32_t refusal, uint32_t sad)
+{
+    return s.refusal == refusal && s.sad == sad && same_bytes(&plane) && same_bytes(&source);
+}
+
+static vp8model_sad whole_sad(place p, int16_t row, int16_t col)
+{
+    return vp8model_mb_luma_sad_at_whole_mv(at_bytes(&plane), p.length, SIDE, p.width, p.height, p.mb_col,
+                                            p.mb_row, at_bytes(&source), row, col);
+}
+
+static vp8model_sad any_sad(place p, int16_t row, int16_t col)
+{
+    return vp8model_mb_luma_sad_at_mv(at_bytes(&plane), p.length, SIDE, p.width, p.height, p.mb_col,
+                                      p.mb_row, at_bytes(&source), row, col);
+}
+
+static void sads(void)
+{
+    lend_ramp();
+    lend_source(1, -1);
+    CHECK(is_sad(whole_sad(here, -4, 4), 0, 0));
+    CHECK(is_sad(whole_sad(here, 0, 0), 0, 512));
+    CHECK(is_sad(whole_sad(here, 4, -4), 0, 1024));
+    CHECK(is_sad(whole_sad(no_size, 1024, 0), 8, 0));
+    CHECK(is_sad(whole_sad(one_short, 1024, 0), 9, 0));
+    CHECK(is_sad(whole_sad(far_column, 1024, 0), 10, 0));
+    CHECK(is_sad(whole_sad(far_row, 1024, 0), 10, 0));
+    CHECK(is_sad(whole_sad(here, 1024, 0), 11, 0));
+    CHECK(is_sad(whole_sad(here, 1, -1024), 11, 0));
+    CHECK(is_sad(whole_sad(here, 2, 0), 12, 0));
+    CHECK(is_sad(whole_sad(here, 0, -1), 12, 0));
+    CHECK(is_sad(any_sad(here, -4, 4), 0, 0));
+    CHECK(is_sad(any_sad(here, 0, 0), 0, 512));
+    CHECK(is_sad(any_sad(no_size, 1024, 0), 8, 0));
+    CHECK(is_sad(any_sad(one_short, 1024, 0), 9, 0));
+    CHECK(is_sad(any_sad(far_column, 1024, 0), 10, 0));
+    CHECK(is_sad(any_sad(far_row, 1024, 0), 10, 0));
+    CHECK(is_sad(any_sad(here, -1024, 0), 11, 0));
+    CHECK(is_sad(any_sad(here, 0, 1024), 11, 0));
+    /* a quarter down: plus 90/128, rounded to 1, at each of 256 samples */
+    lend_source(0, 0);
+    CHECK(is_sad(any_sad(here, 1, 0), 0, 256));
+}
+
+static vp8model_diamond diamond(place p, int16_t row, int16_t col, uint32_t most)
+{
+    vp8model_diamond d = vp8model_small_diamond_search_luma(
+        at_bytes(&plane), p.length, SIDE, p.width, p.height, p.mb_col, p.mb_row, at_bytes(&source), row,
+        col, most);
+    CHECK(same_bytes(&plane) && same_bytes(&source));
+    return d;
+}
+
+static int is_diamond(vp8model_diamond d, uint32_t refusal, int16_t row, int16_t col, uint32_t sad,
+                      uint32_t count, uint32_t rounds)
+{
+    return d.refusal == refusal && d.row == row && d.col == col && d.sad == sad && d.sads == count
+           && d.rounds == rounds;
+}
+
+static void diamonds(void)
+{
+    lend_ramp();
+    lend_source(1, -1);
+    /* up to (-4, 0), right to (-4, 4), and a round without a move */
+    CHECK(is_diamond(diamond(here, 0, 0, UINT32_MAX), 0, -4, 4, 0, 9, 2));
+    CHECK(is_diamond(diamond(here, 0, 0, 1), 0, -4, 4, 0, 5, 1));
+    CHECK(is_diamond(diamond(here, 0, 0, 0), 0, 0, 0, 512, 1, 0));
+    /* clamped first, then cut toward zero; 255 rows down every row is the last one */
+    CHECK(is_diamond(diamond(here, 1023, -5, 0), 0, 1020, -4, 18304, 1, 0));
+    CHECK(is_diamond(diamond(here, 32767, -5, 0), 0, 1020, -4, 18304, 1, 0));
+    CHECK(diamond(here, 0, -1023, 0).col == -1020);
+    CHECK(is_diamond(diamond(no_size, 0, 0, 9), 8, 0, 0, 0, 0, 0));
+    CHECK(is_diamond(diamond(one_short, 4, 4, 9), 9, 0, 0, 0, 0, 0));
+    CHECK(is_diamond(diamond(far_column, 4, 4, 9), 10, 0, 0, 0, 0, 0));
+    CHECK(is_diamond(diamond(far_row, 4, 4, 9), 10, 0, 0, 0, 0, 0));
+}
+
+static int is_search(vp8model_search s, uint32_t refusal, int16_t row, int16_t col, uint32_t sad)
+{
+    return s.refusal == refusal && s.row == row && s.col == col && s.sad == sad && same_bytes(&plane)
+           && same_bytes(&source);
+}
+
+static vp8model_search half(place p, int16_t row, int16_t col)
+{
+    return vp8model_half_pixel_refine_luma(at_bytes(&plane), p.length, SIDE, p.width, p.height, p.mb_col,
+                                           p.mb_row, at_bytes(&source), row, col);
+}
+
+static vp8model_search quarter(place p, int16_t row, int16_t col)
+{
+    return vp8model_quarter_pixel_refine_luma(at_bytes(&plane), p.length, SIDE, p.width, p.height,
+                                              p.mb_col, p.mb_row, at_bytes(&source), row, col);
+}
+
+static void refinements(void)
+{
+    lend_ramp();
+    lend_source(1, -1);
+    CHECK(is_search(half(here, -4, 4), 0, -4, 4, 0));
+    /* (-2, -2) and (-2, 0) both have 256: the earlier is kept */
+    CHECK(is_search(half(here, 0, 0), 0, -2, -2, 256));
+    CHECK(is_search(half(no_size, 1024, 2), 8, 0, 0, 0));
+    CHECK(is_search(half(one_short, 1024, 2), 9, 0, 0, 0));
+    CHECK(is_search(half(far_column, 1024, 2), 10, 0, 0, 0));
+    CHECK(is_search(half(far_row, 1024, 2), 10, 0, 0, 0));
+    CHECK(is_search(half(here, 1024, 2), 11, 0, 0, 0));
+    CHECK(is_search(half(here, 4, 2), 12, 0, 0, 0));
+    CHECK(is_search(quarter(here, -2, -2), 0, -3, -2, 0));
+    CHECK(is_search(quarter(here, -4, 4), 0, -4, 4, 0));
+    CHECK(is_search(quarter(no_size, -1024, 1), 8, 0, 0, 0));
+    CHECK(is_search(quarter(one_short, -1024, 1), 9, 0, 0, 0));
+    CHECK(is_search(quarter(far_column, -1024, 1), 10, 0, 0, 0));
+    CHECK(is_search(quarter(far_row, -1024, 1), 10, 0, 0, 0));
+    CHECK(is_search(quarter(here, -1024, 1), 11, 0, 0, 0));
+    CHECK(is_search(quarter(here, 2, 1), 12, 0, 0, 0));
+}
+
+static int curve_has(uint8_t strength, size_t e, uint32_t w)
+{
+    lend_words(&curve, 256, 99);
+    vp8model_curve(strength, at_words(&curve));
+    return guarded_words(&curve) && at_words(&curve)[e] == w
+           && vp8model_weight(strength, (uint8_t)e) == w;
+}
+
+static void weight_curves(void)
+{
+    CHECK(curve_has(1, 0, 16) && curve_has(1, 4, 8) && curve_has(1, 15, 1) && curve_has(1, 16, 0));
+    CHECK(curve_has(6, 4, 15) && curve_has(6, 87, 1) && curve_has(6, 88, 0) && curve_has(6, 255, 0));
+    CHECK(curve_has(255, 4, 15) && curve_has(7, 87, 1));
+    CHECK(curve_has(0, 0, 0) && all_words(&curve, 0, 256, 0));
+    CHECK(vp8model_scale_of(0) == 8);
+    CHECK(vp8model_scale_of(1) == 16);
+    CHECK(vp8model_scale_of(6) == 512);
+    CHECK(vp8model_scale_of(255) == 512);
+    CHECK(vp8model_distance_bound(1, 1) == 1);
+    CHECK(vp8model_distance_bound(1, 6) == 8);
+    CHECK(vp8model_distance_bound(0, 6) == 0);
+    CHECK(vp8model_distance_bound(UINT32_MAX, 0) == 0);
+    CHECK(vp8model_distance_bound(UINT32_MAX, 6) == 87);
+    CHECK(vp8model_arnr_config_new(5) == 5);
+    CHECK(vp8model_arnr_config_new(9) == VP8MODEL_MAX_STRENGTH);
+    CHECK(vp8model_arnr_config_default() == 3);
+    CHECK(vp8model_arnr_config_with_strength(3, 200) == 200);
+}
+
+static void frames_as_numbers(void)
+{
+    lend_words(&numbers, 15, 0);
+    for (uint32_t i = 0; i < 15; i++)
+        at_words(&numbers)[i] = 100 + i;
+    keep_words(&numbers);
+    CHECK(vp8model_frame_count(at_words(&numbers), 15) == 2);
+    CHECK(vp8model_frame_count(at_words(&numbers), 13) == 1);
+    CHECK(vp8model_frame_count(at_words(&numbers), 6) == 0);
+    vp8model_frame f = vp8model_frame_at(at_words(&numbers), 15, 1);
+    CHECK(f.width == 107 && f.height == 108 && f.y == 109 && f.u == 110 && f.v == 111);
+    CHECK(f.luma_stride == 112 && f.chroma_stride == 113);
+    f = vp8model_frame_at(at_words(&numbers), 15, 2);
+    CHECK(f.width == 114 && f.height == 0 && f.y == 0 && f.u == 0 && f.v == 0);
+    CHECK(f.luma_stride == 0 && f.chroma_stride == 0);
+    f = vp8model_frame_at(at_words(&numbers), 15, SIZE_MAX);
+    CHECK(f.width == 0 && f.chroma_stride == 0);
+    CHECK(same_words(&numbers));
+}
+
+/* P of 16 by 16, and what is lent past it. */
+#define P 384
+#define PAST 5
+
+static void put_frame(size_t g, uint32_t width, uint32_t height, uint32_t y)
+{
+    const uint32_t seven[7] = {width, height, y, y + 256, y + 320, 16, 8};
+    memcpy(at_words(&numbers) + g * VP8MODEL_NUMBERS_PER_FRAME, seven, sizeof seven);
+    keep_words(&numbers);
+}
+
+/* `count` frames of 16 by 16: the first all 100, the others all `other`, in the same bytes. */
+static void lend_window(size_t count, uint8_t other)
+{
+    lend_bytes(&picture, 2 * P, 100);
+    memset(at_bytes(&picture) + P, other, P);
+    keep_bytes(&picture);
+    lend_words(&numbers, count * VP8MODEL_NUMBERS_PER_FRAME, 0);
+    for (size_t g = 0; g < count; g++)
+        put_frame(g, 16, 16, g == 0 ? 0 : P);
+    lend_bytes(&output, P + PAST, 7);
+    lend_words(&sums, P + PAST, 7);
+    lend_words(&weights, P + PAST, 7);
+}
+
+static void refused_builds(enum builder which)
+{
+    lend_window(2, 104);
+    REFUSES(which, 2, 1, 0, 0, 0, 0, 0);
+    lend_window(1025, 104);
+    REFUSES(which, 0, 2, 0, 0, 0, 0, 0);
+    REFUSES(which, 1025, 1, 0, 0, 0, 0, 0);
+    lend_window(2, 104);
+    put_frame(0, 0, 16, 0);
+    REFUSES(which, 0, 3, 0, 16, 0, 0, 0);
+    REFUSES(which, 1, 4, 16, 16, 0, 16, 0);
+    put_frame(0, 16, 16384, 0);
+    REFUSES(which, 0, 3, 16, 16384, 0, 0, 0);
+    lend_window(3, 104);
+    put_frame(1, 8, 15, P);
+    put_frame(2, 9, 16, P);
+    REFUSES(which, 0, 4, 16, 16, 8, 15, 0);
+    REFUSES(which, 2, 4, 9, 16, 16, 16, 0);
+    lend_window(3, 104);
+    put_frame(2, 16, 16, P + 1);
+    REFUSES(which, 0, 5, 0, 0, 0, 0, 2);
+    put_frame(1, 16, 16, UINT32_MAX - 320);
+    REFUSES(which, 0, 5, 0, 0, 0, 0, 1);
+    lend_window(2, 104);
+    lend_bytes(&output, P - 1, 7);
+    REFUSES(which, 0, 6, 0, 0, 0, 0, 0);
+    lend_bytes(&output, P, 7);
+    lend_words(&sums, P - 1, 7);
+    REFUSES(which, 0, 7, 0, 0, 0, 0, 0);
+    lend_words(&sums, P, 7);
+    lend_words(&weights, P - 1, 7);
+    REFUSES(which, 0, 7, 0, 0, 0, 0, 0);
+}
+
+/* The first P entries of the three slices, and that those past them are as they were. */
+static int is_filled(uint8_t sample, uint32_t sum, uint32_t total)
+{
+    return all_bytes(&output, 0, P, sample) && all_words(&sums, 0, P, sum)
+           && all_words(&weights, 0, P, total) && all_bytes(&output, P, P + PAST, 7)
+           && all_words(&sums, P, P + PAST, 7) && all_words(&weights, P, P + PAST, 7)
+           && guarded_bytes(&output) && guarded_words(&sums) && guarded_words(&weights);
+}
+
+static void accepted_builds(enum builder which)
+{
+    lend_window(2, 104);
+    CHECK(is_build(build(which, 0, 1), 0, 16, 16, 1, 0, 0, 0));
+    CHECK(is_filled(101, 2432, 24) && inputs_kept(which));
+    /* a difference of 12 weighs 1; at 13 the SAD is 3328 and the block is excluded */
+    lend_window(2, 112);
+    CHECK(is_build(build(which, 0, 1), 0, 16, 16, 1, 0, 0, 0));
+    CHECK(is_filled(101, 1712, 17) && inputs_kept(which));
+    lend_window(2, 113);
+    CHECK(is_build(build(which, 0, 1), 0, 16, 16, 0, 0, 0, 0));
+    CHECK(is_filled(100, 1600, 16) && inputs_kept(which));
+    /* a repeat is counted: three other frames */
+    lend_window(4, 104);
+    CHECK(is_build(build(which, 0, 1), 0, 16, 16, 3, 0, 0, 0));
+    CHECK(is_filled(102, 4096, 40) && inputs_kept(which));
+    /* the centre is only cropped: strength 0, or one frame */
+    lend_window(2, 104);
+    CHECK(is_build(build(which, 1, 0), 0, 16, 16, 0, 0, 0, 0));
+    CHECK(is_filled(104, 7, 7) && inputs_kept(which));
+    lend_window(1, 104);
+    CHECK(is_build(build(which, 0, 255), 0, 16, 16, 0, 0, 0, 0));
+    CHECK(is_filled(100, 7, 7) && inputs_kept(which));
+}
+
+/* The checks alone: legal sizes, and the limits 16383 and 1024. */
+static void legal_checks(void)
+{
+    lend_window(2, 104);
+    CHECK(is_build(build(CHECKS_ONLY, 1, 0), 0, 16, 16, 0, 0, 0, 0));
+    CHECK(all_kept(CHECKS_ONLY));
+    lend_window(1024, 104);
+    CHECK(is_build(build(CHECKS_ONLY, 1023, 0), 0, 16, 16, 0, 0, 0, 0));
+    CHECK(all_kept(CHECKS_ONLY));
+    lend_window(1, 104);
+    lend_bytes(&picture, 32767, 1);
+    lend_bytes(&output, 32767, 7);
+    lend_words(&sums, 32767, 7);
+    lend_words(&weights, 32767, 7);
+    const uint32_t wide[7] = {16383, 1, 0, 16383, 24575, 16383, 8192};
+    memcpy(at_words(&numbers), wide, sizeof wide);
+    keep_words(&numbers);
+    CHECK(is_build(build(CHECKS_ONLY, 0, 0), 0, 16383, 1, 0, 0, 0, 0));
+    CHECK(all_kept(CHECKS_ONLY));
+}
+
+int main(void)
+{
+    empty_window();
+    samples_and_vectors();
+    filtered_samples();
+    filtered_macroblocks();
+    plane_refusals();
+    fetches();
+    block_sads();
+    sads();
+    diamonds();
+    refinements();
+    weight_curves();
+    frames_as_numbers();
+    refused_builds(CHECKS_ONLY);
+    refused_builds(FROM_NUMBERS);
+    refused_builds(FROM_RECORDS);
+    accepted_builds(FROM_NUMBERS);
+    accepted_builds(FROM_RECORDS);
+    legal_checks();
+    printf("calls: %u checks, %u failed\n", checks, failed);
+    return failed == 0 ? 0 : 1;
+}
