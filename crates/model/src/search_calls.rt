@@ -134,13 +134,13 @@ fn diamond_numbers(answer: DiamondAnswer) -> Diamond
     ensures { λ r. ⌜ r ≡ diamondNumbers (diamondOutcome answer) ⌝ }
 {
     match answer {
-        DiamondAnswer::Found(r) => Diamond {
+        DiamondAnswer::Found(d) => Diamond {
             refusal: 0,
-            row: r.mv.row,
-            col: r.mv.col,
-            sad: r.sad,
-            sads: r.sads,
-            rounds: r.rounds,
+            row: d.mv.row,
+            col: d.mv.col,
+            sad: d.sad,
+            sads: d.sads,
+            rounds: d.rounds,
         },
         DiamondAnswer::BadSize => diamond_refused(8),
         DiamondAnswer::ShortPlane => diamond_refused(9),
@@ -203,11 +203,11 @@ fn search_numbers(answer: SearchAnswer) -> Search
     ensures { λ r. ⌜ r ≡ searchNumbers (searchOutcome answer) ⌝ }
 {
     match answer {
-        SearchAnswer::Found(r) => Search {
+        SearchAnswer::Found(s) => Search {
             refusal: 0,
-            row: r.mv.row,
-            col: r.mv.col,
-            sad: r.sad,
+            row: s.mv.row,
+            col: s.mv.col,
+            sad: s.sad,
         },
         SearchAnswer::BadSize => search_refused(8),
         SearchAnswer::ShortPlane => search_refused(9),
