@@ -1,6 +1,7 @@
 //! Finds the originals and writes, into OUT_DIR only, what the crate root includes:
 //! a `mod` line for each of the six files, and derived copies of motion_search.rs and arnr.rs that count.
 //! VP8_SOURCES names their folder; a relative one, as the default, is seen from the repository's root.
+//! Links the model's static library where MODEL_LIB names it, for the comparison and the benchmark.
 
 use std::path::{Path, PathBuf};
 use std::{env, fs};
@@ -13,6 +14,7 @@ fn main() {
     println!("cargo::rustc-check-cfg=cfg(sources_absent)");
     println!("cargo::rerun-if-env-changed=VP8_SOURCES");
     println!("cargo::rerun-if-changed=build.rs");
+    link_model();
     let out = PathBuf::from(env::var("OUT_DIR").unwrap());
     let folder = folder();
     let missing: Vec<&str> = NAMES.into_iter().filter(|name| !file(&folder, name).is_file()).collect();
@@ -27,6 +29,16 @@ fn main() {
     } else {
         println!("cargo::rustc-cfg=sources_absent");
         println!("cargo::warning=no originals: {} is without {}.rs", folder.display(), missing.join(".rs, "));
+    }
+}
+
+fn link_model() {
+    println!("cargo::rustc-check-cfg=cfg(model)");
+    println!("cargo::rerun-if-env-changed=MODEL_LIB");
+    if let Ok(library) = env::var("MODEL_LIB") {
+        println!("cargo::rerun-if-changed={library}");
+        println!("cargo::rustc-link-arg={library}");
+        println!("cargo::rustc-cfg=model");
     }
 }
 

@@ -1,19 +1,26 @@
-//! Compiles the Rust originals unchanged and writes their answers for the replay programs.
+//! Compiles the Rust originals unchanged, writes their answers for the replay programs, and runs the model beside them.
 //!
 //!     oracle answers NAME OUTDIR
+//!     oracle compare [--inputs N] [--seed S] [--index I] [--quick]
+//!     oracle bench
 //!
 //! NAME is prediction, search or arnr; OUTDIR gets the folder data/ and the file stdout of the crate replay_NAME.
-//! Exit status: 0 written; 2 bad usage; 3 the originals are not there and nothing was written;
-//! 101 an answer of the originals is not document 01's, or they panicked.
+//! Exit status: 0 done; 1 the comparison found a difference; 2 bad usage; 3 the originals, or for the last two the
+//! model's library, are not there and nothing was done; 101 an answer of the originals is not document 01's, or they
+//! panicked.
 #![cfg_attr(feature = "simd", feature(portable_simd))]
 
 #[cfg(not(sources_absent))]
 include!(concat!(env!("OUT_DIR"), "/sources.rs"));
 
+#[cfg(all(model, not(sources_absent)))]
+mod compare;
 #[cfg(not(sources_absent))]
 mod counts;
 #[cfg(not(sources_absent))]
 mod denoiser;
+#[cfg(all(model, not(sources_absent)))]
+mod model;
 #[cfg(not(sources_absent))]
 mod paper;
 #[cfg(not(sources_absent))]
@@ -52,7 +59,11 @@ fn main() {
             Some(Err(e)) => usage(&format!("{folder}: {e}")),
             None => usage(&format!("no answers are named {name}")),
         },
-        _ => usage("usage: oracle answers NAME OUTDIR"),
+        ["compare", ..] => match compare(&words[1..]) {
+            Some(same) => exit(if same { 0 } else { 1 }),
+            None => usage("usage: oracle compare [--inputs N] [--seed S] [--index I] [--quick]"),
+        },
+        _ => usage("usage: oracle answers NAME OUTDIR, or oracle compare, or oracle bench"),
     }
 }
 
@@ -75,5 +86,22 @@ fn answers(name: &str, folder: &Path) -> Option<std::io::Result<()>> {
 fn answers(name: &str, _folder: &Path) -> Option<std::io::Result<()>> {
     eprintln!("oracle: skipped: the answers for {name}. The Rust originals are not in {}", env!("ORACLE_SOURCES"));
     eprintln!("oracle: set VP8_SOURCES to their folder and build again; the stored answers stay as they are");
+    exit(3)
+}
+
+#[cfg(all(model, not(sources_absent)))]
+fn compare(words: &[&str]) -> Option<bool> {
+    compare::run(words)
+}
+
+#[cfg(not(all(model, not(sources_absent))))]
+fn compare(_words: &[&str]) -> Option<bool> {
+    without_model()
+}
+
+#[cfg(not(all(model, not(sources_absent))))]
+fn without_model() -> ! {
+    eprintln!("oracle: skipped: built without the model's library or without the Rust originals");
+    eprintln!("oracle: set MODEL_LIB to libmodel.a and VP8_SOURCES to the originals' folder, and build again");
     exit(3)
 }

@@ -1,4 +1,5 @@
-//! The generator of every random number in the stored answers: splitmix64, seeded by a literal at each use.
+//! The generator of every random number: splitmix64, seeded by a literal at each use in the stored answers,
+//! and by the run's seed and the input's index in the comparison.
 
 pub struct Random(u64);
 
@@ -27,6 +28,16 @@ impl Random {
     /// Any 16-bit component.
     pub fn component(&mut self) -> i16 {
         (self.next() >> 48) as u16 as i16
+    }
+
+    /// One of several.
+    pub fn pick<T: Copy>(&mut self, of: &[T]) -> T {
+        of[self.below(of.len() as u64) as usize]
+    }
+
+    /// True in so many of a hundred.
+    pub fn percent(&mut self, n: u64) -> bool {
+        self.below(100) < n
     }
 
     pub fn bytes(&mut self, n: usize) -> Vec<u8> {

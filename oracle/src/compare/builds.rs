@@ -1,0 +1,167 @@
+//! Frames as numbers, the builder's checks, and both builders.
+
+use super::answer::{Answer, Pair, numbers};
+use super::content;
+use super::guarded::Guarded;
+use super::input::{Input, Kind};
+use super::windows::{draw_numbers, draw_window};
+use crate::arnr::ArnrConfig;
+use crate::encoder::I420Frame;
+use crate::refusals::{self, Build, Part, planes};
+use crate::{counts, model};
+
+#[rustfmt::skip]
+const BUILD: &[&str] = &[
+    "content", "content_seed", "pitch", "bytes_len", "centre", "strength", "output_len", "sums_len", "weights_len",
+];
+
+#[rustfmt::skip]
+pub const KINDS: [Kind; 5] = [
+    Kind { name: "frame_count", weight: 5, fields: &[], draw: |r| (vec![], draw_numbers(r)), answers: answer_count },
+    Kind { name: "frame_at", weight: 10, fields: &["g"], draw: |r| {
+               let g = r.pick(&[0, 1, 2, 3, 4, 1 << 32, 1 << 63, u64::MAX, u64::MAX / 7, u64::MAX / 7 + 1]);
+               (vec![g.into()], draw_numbers(r))
+           }, answers: answer_at },
+    Kind { name: "check_build", weight: 40, fields: BUILD, draw: draw_window, answers: answer_check },
+    Kind { name: "build_from_numbers", weight: 55, fields: BUILD, draw: draw_window, answers: answer_numbers },
+    Kind { name: "build_arnr_altref", weight: 55, fields: BUILD, draw: draw_window, answers: answer_records },
+];
+
+fn answer_count(input: &Input) -> Pair {
+    let lent = Guarded::holding(&input.list, input.salt);
+    let mut pair = numbers(&[model::frame_count(lent.slice()) as i64], &[(input.list.len() / 7) as i64]);
+    pair.model = pair.model.constant("numbers", &lent);
+    pair
+}
+
+fn answer_at(input: &Input) -> Pair {
+    let lent = Guarded::holding(&input.list, input.salt);
+    let got = model::frame_at(lent.slice(), input.size("g"));
+    let said = [got.width, got.height, got.y, got.u, got.v, got.luma_stride, got.chroma_stride].map(i64::from);
+    let number = |k: i128| usize::try_from(input.get("g") * 7 + k).ok().and_then(|i| input.list.get(i).copied());
+    let wanted: [i64; 7] = std::array::from_fn(|k| number(k as i128).unwrap_or(0).into());
+    Pair { model: Answer::new(0, &said).constant("numbers", &lent), expected: Answer::new(0, &wanted) }
+}
+
+fn lens(input: &Input) -> [usize; 3] {
+    ["output_len", "sums_len", "weights_len"].map(|name| input.size(name))
+}
+
+fn bytes_of(input: &Input) -> Vec<u8> {
+    let [content, seed] = ["content", "content_seed"].map(|name| input.get(name) as u64);
+    content::bytes(content, seed, input.size("bytes_len"), input.size("pitch"))
+}
+
+// The refusal and the numbers of the answer in the header's order, as document 01 has them; no build is made.
+fn checked(input: &Input, frames: &[[u32; 7]]) -> (u64, [i64; 6]) {
+    let [output, sums, weights] = lens(input).map(|n| n as u64);
+    let (bytes, centre) = (input.get("bytes_len") as u64, input.get("centre") as u64);
+    let (refusal, values) = refusals::of_build(Build { bytes, frames, centre, output, sums, weights });
+    let v = |k: usize| values[k] as i64;
+    let said = match refusal {
+        0 => [frames[centre as usize][0].into(), frames[centre as usize][1].into(), 0, 0, 0, 0],
+        3 => [v(0), v(1), 0, 0, 0, 0],
+        4 => [v(2), v(3), 0, v(0), v(1), 0],
+        5 => [0, 0, 0, 0, 0, v(0)],
+        _ => [0; 6],
+    };
+    (refusal, said)
+}
+
+fn said(got: model::Build) -> Answer {
+    let numbers = [got.width, got.height, got.accepted, got.other_width, got.other_height, got.frame];
+    Answer::new(got.refusal.into(), &numbers.map(i64::from))
+}
+
+fn answer_check(input: &Input) -> Pair {
+    let bytes = Guarded::holding(&bytes_of(input), input.salt);
+    let list = Guarded::holding(&input.list, input.salt ^ 1);
+    let got = model::check_build(bytes.slice(), list.slice(), input.size("centre"), lens(input));
+    let (refusal, wanted) = checked(input, &input.frames());
+    let model = said(got).constant("bytes", &bytes).constant("numbers", &list);
+    Pair { model, expected: Answer::new(refusal, &wanted) }
+}
+
+// The slices that a builder writes, before the call.
+struct Slices {
+    output: Guarded<u8>,
+    sums: Guarded<u32>,
+    weights: Guarded<u32>,
+}
+
+impl Slices {
+    fn of(input: &Input) -> Slices {
+        let [output, sums, weights] = lens(input);
+        Slices {
+            output: Guarded::noise(output, input.salt ^ 2),
+            sums: Guarded::noise(sums, input.salt ^ 3),
+            weights: Guarded::noise(weights, input.salt ^ 4),
+        }
+    }
+
+    fn lent(&mut self) -> model::Lent<'_> {
+        let Slices { output, sums, weights } = self;
+        model::Lent { output: output.slice_mut(), sums: sums.slice_mut(), weights: weights.slice_mut() }
+    }
+
+    fn after(&self, answer: Answer) -> Answer {
+        answer.written("output", &self.output).written("sums", &self.sums).written("weights", &self.weights)
+    }
+}
+
+fn answer_numbers(input: &Input) -> Pair {
+    let bytes = Guarded::holding(&bytes_of(input), input.salt);
+    let list = Guarded::holding(&input.list, input.salt ^ 1);
+    let mut slices = Slices::of(input);
+    let (centre, strength) = (input.size("centre"), input.get("strength") as u8);
+    let got = model::build_from_numbers(bytes.slice(), list.slice(), centre, strength, slices.lent());
+    let model = slices.after(said(got)).constant("bytes", &bytes).constant("numbers", &list);
+    Pair { model, expected: built(input, bytes.slice()) }
+}
+
+fn answer_records(input: &Input) -> Pair {
+    let record = |[width, height, y, u, v, luma_stride, chroma_stride]: [u32; 7]| model::Frame {
+        width,
+        height,
+        y,
+        u,
+        v,
+        luma_stride,
+        chroma_stride,
+    };
+    let records: Vec<model::Frame> = input.frames().into_iter().map(record).collect();
+    let bytes = Guarded::holding(&bytes_of(input), input.salt);
+    let frames = Guarded::holding(&records, input.salt ^ 1);
+    let mut slices = Slices::of(input);
+    let (centre, strength) = (input.size("centre"), input.get("strength") as u8);
+    let got = model::build_arnr_altref(bytes.slice(), frames.slice(), centre, strength, slices.lent());
+    let model = slices.after(said(got)).constant("bytes", &bytes).constant("frames", &frames);
+    Pair { model, expected: built(input, bytes.slice()) }
+}
+
+// What a builder is expected to say and leave: the original's picture, sums and weights in the first entries.
+fn built(input: &Input, bytes: &[u8]) -> Answer {
+    let frames = input.frames();
+    let (refusal, mut wanted) = checked(input, &frames);
+    let before = Slices::of(input);
+    let (mut output, mut sums) = (before.output.slice().to_vec(), before.sums.slice().to_vec());
+    let mut weights = before.weights.slice().to_vec();
+    if refusal == 0 {
+        let part = |p: &Part| &bytes[p.start as usize..p.end() as usize];
+        let picture = |f: &[u32; 7]| {
+            let [y, u, v] = planes(f);
+            let (y_stride, uv_stride) = (y.stride as usize, u.stride as usize);
+            let [y, u, v] = [part(&y), part(&u), part(&v)];
+            I420Frame { width: f[0], height: f[1], y, u, v, y_stride, uv_stride }
+        };
+        let pictures: Vec<I420Frame> = frames.iter().map(picture).collect();
+        let config = ArnrConfig::default().with_strength(input.get("strength") as u8);
+        let got = counts::build(&pictures, input.size("centre"), &config).expect("an accepted window");
+        let packed = [&got.picture.y[..], &got.picture.u, &got.picture.v].concat();
+        output[..packed.len()].copy_from_slice(&packed);
+        sums[..got.sums.len()].copy_from_slice(&got.sums);
+        weights[..got.weights.len()].copy_from_slice(&got.weights);
+        wanted[2] = got.accepted as i64;
+    }
+    Answer::new(refusal, &wanted).holding(&output).holding(&sums).holding(&weights)
+}

@@ -1,0 +1,92 @@
+//! Picture bytes by a kind and a seed, the plainest kind first, so that a smaller number is a plainer picture.
+
+use crate::motion_vector::Mv;
+use crate::paper::Plane;
+use crate::random::Random;
+use std::sync::OnceLock;
+
+/// The kinds of `bytes` and of `macroblock`.
+pub const KINDS: u64 = 8;
+pub const SOURCES: u64 = 5;
+pub const CUT: u64 = 3;
+pub const TEXTURE: u64 = 4;
+
+const SIDE: usize = 256;
+
+/// So many bytes, read as rows of `pitch`: flat, a gradient, checkers, levels about the denoiser's cut-off in
+/// chunks of a row each, a smooth texture, the same with noise, noise of few levels, noise.
+pub fn bytes(kind: u64, seed: u64, len: usize, pitch: usize) -> Vec<u8> {
+    let pitch = pitch.clamp(1, len.max(1));
+    let mut random = Random::new(seed);
+    let at = |i: usize| (i / pitch, i % pitch);
+    match kind {
+        0 => vec![seed as u8; len],
+        1 => {
+            let (down, across) = (random.below(7) as usize, random.below(7) as usize);
+            (0..len).map(|i| ((at(i).0 * down + at(i).1 * across) / 2) as u8).collect()
+        }
+        2 => {
+            let (unit, one, other) = (1 + random.below(3) as usize, random.byte(), random.byte());
+            let even = |(row, col): (usize, usize)| (row / unit + col / unit).is_multiple_of(2);
+            (0..len).map(|i| if even(at(i)) { one } else { other }).collect()
+        }
+        CUT => cut(len, pitch, &mut random),
+        TEXTURE => (0..len).map(|i| texture(at(i), seed)).collect(),
+        5 => {
+            let mut shaken = |b: u8| b.saturating_add(random.below(13) as u8).saturating_sub(6);
+            (0..len).map(|i| shaken(texture(at(i), seed))).collect()
+        }
+        6 => (0..len).map(|_| 90 + random.below(30) as u8).collect(),
+        _ => random.bytes(len),
+    }
+}
+
+// 100 in the first chunk; then 112, 113, or 113 but for one sample of 112.
+fn cut(len: usize, pitch: usize, random: &mut Random) -> Vec<u8> {
+    let odd = random.below(pitch as u64) as usize;
+    let turn = random.below(3) as usize;
+    let level = |i: usize| match (i / pitch, (i / pitch + turn) % 3) {
+        (0, _) => 100,
+        (_, 0) => 112,
+        (_, 1) => 113,
+        _ => 113 - u8::from(i % pitch == odd),
+    };
+    (0..len).map(level).collect()
+}
+
+// One sample of a smooth picture that repeats every 256 samples both ways, from a place that the seed says.
+fn texture((row, col): (usize, usize), seed: u64) -> u8 {
+    static PICTURE: OnceLock<Vec<u8>> = OnceLock::new();
+    let picture = PICTURE.get_or_init(|| {
+        let noise = Random::new(31).bytes(SIDE * SIDE);
+        let at = |r: usize, c: usize| i64::from(noise[r % SIDE * SIDE + c % SIDE]);
+        let mean = |r: usize, c: usize| (0..49).map(|k| at(r + k / 7, c + k % 7)).sum::<i64>() / 49;
+        let stretched = |v: i64| ((v - 128) * 4 + 128).clamp(0, 255) as u8;
+        (0..SIDE * SIDE).map(|i| stretched(mean(i / SIDE, i % SIDE))).collect()
+    });
+    let (row, col) = (row + seed as usize % SIDE, col + seed as usize / SIDE % SIDE);
+    picture[row % SIDE * SIDE + col % SIDE]
+}
+
+/// A source macroblock: flat, the plane's samples at a displacement, the same with noise, the mean of two
+/// neighbours there, noise. Where there is no plane only the first and the last.
+pub fn macroblock(kind: u64, seed: u64, plane: Option<&Plane>, (x, y): (usize, usize), mv: Mv) -> [u8; 256] {
+    let mut random = Random::new(seed);
+    let flat = [seed as u8; 256];
+    match (kind, plane) {
+        (0, _) => flat,
+        (1..=3, Some(plane)) => {
+            let mut near =
+                |v: i16| if seed.is_multiple_of(3) { 0 } else { i64::from(v / 4) + random.below(13) as i64 - 6 };
+            let (left, top) = (x as i64 + near(mv.col), y as i64 + near(mv.row));
+            let at = |i: usize, beside: i64| plane.sample(left + beside + (i % 16) as i64, top + (i / 16) as i64);
+            let mean = |i: usize| ((u16::from(at(i, 0)) + u16::from(at(i, 1))) / 2) as u8;
+            match kind {
+                1 => std::array::from_fn(|i| at(i, 0)),
+                2 => std::array::from_fn(|i| at(i, 0).saturating_add(random.below(9) as u8)),
+                _ => std::array::from_fn(mean),
+            }
+        }
+        _ => std::array::from_fn(|_| random.byte()),
+    }
+}

@@ -1,0 +1,139 @@
+//! The model beside the originals, at scale: inputs drawn from a seed, every answer compared.
+//!
+//! Where document 01 refuses, the expected number and values come from refusals.rs, and every lent slice must
+//! hold what it held; elsewhere the originals' answer decides, with the counts of counts.rs.
+
+mod answer;
+mod builds;
+mod content;
+mod guarded;
+mod input;
+mod numbers;
+mod planes;
+mod windows;
+
+use answer::{Answer, Pair};
+use input::{Input, Kind};
+use std::panic::catch_unwind;
+use std::time::{Duration, Instant};
+
+const BUILD: &str = if cfg!(feature = "simd") { "simd" } else { "plain" };
+
+/// What the command line says.
+#[derive(Clone, Copy)]
+struct Run {
+    inputs: u64,
+    seed: u64,
+    index: Option<u64>,
+    plant: bool,
+}
+
+/// Runs the comparison; whether every answer was the same. None where the words are not understood.
+pub fn run(words: &[&str]) -> Option<bool> {
+    let run = parsed(words)?;
+    let (from, to) = run.index.map_or((0, run.inputs), |index| (index, index + 1));
+    println!("compare: seed {}, {} inputs ({BUILD})", run.seed, to - from);
+    let mut tally = Tally::new();
+    let mut differences = 0;
+    for index in from..to {
+        let input = Input::draw(&tally.kinds, run.seed, index);
+        let pair = answers(&input, run.plant);
+        tally.add(&input, &pair);
+        if !pair.same() {
+            differences += 1;
+            report(run, index, input);
+            break;
+        }
+    }
+    tally.print();
+    println!("compare: {} inputs, {differences} differences ({BUILD})", tally.done);
+    Some(differences == 0)
+}
+
+fn parsed(words: &[&str]) -> Option<Run> {
+    let mut run = Run { inputs: 200_000, seed: 6386, index: None, plant: false };
+    let mut words = words.iter();
+    while let Some(&word) = words.next() {
+        match word {
+            "--quick" => run.inputs = 5_000,
+            "--plant" => run.plant = true,
+            "--inputs" => run.inputs = words.next()?.parse().ok()?,
+            "--seed" => run.seed = words.next()?.parse().ok()?,
+            "--index" => run.index = Some(words.next()?.parse().ok()?),
+            _ => return None,
+        }
+    }
+    Some(run)
+}
+
+fn kinds() -> Vec<&'static Kind> {
+    static DEFAULT: Kind = numbers::DEFAULT;
+    static NUMBERS: [Kind; 14] = numbers::KINDS;
+    static PLANES: [Kind; 10] = planes::KINDS;
+    static BUILDS: [Kind; 5] = builds::KINDS;
+    std::iter::once(&DEFAULT).chain(&NUMBERS).chain(&PLANES).chain(&BUILDS).collect()
+}
+
+// Both answers. A panic of the original is a fault. With `plant` one expected value is wrong, so that the
+// report of a difference can be tried.
+fn answers(input: &Input, plant: bool) -> Pair {
+    let mut pair = catch_unwind(|| (input.kind.answers)(input)).unwrap_or_else(|cause| {
+        let cause = cause.downcast_ref::<String>().cloned().unwrap_or_default();
+        let faults = vec![format!("the original panicked: {cause}")];
+        Pair { model: Answer::default(), expected: Answer { faults, ..Answer::default() } }
+    });
+    let planted = |input: &Input| input.kind.name == "small_diamond_search_luma" && input.get("width") > 20;
+    if plant && pair.expected.refusal == 0 && planted(input) {
+        pair.expected.said[2] ^= 1;
+    }
+    pair
+}
+
+fn report(run: Run, index: u64, input: Input) {
+    println!("compare: a difference at seed {}, index {index} ({BUILD})", run.seed);
+    // an original that panics does so at each input tried
+    std::panic::set_hook(Box::new(|_| {}));
+    let (least, tried) = input.shrunk(|input| !answers(input, run.plant).same());
+    println!("compare: the smallest input found, {tried} tried:\n  {least}");
+    print!("{}", answers(&least, run.plant).told());
+    println!("compare: again: oracle/compare --seed {} --index {index}", run.seed);
+}
+
+// Inputs by call: accepted and refused.
+struct Tally {
+    kinds: Vec<&'static Kind>,
+    counts: Vec<[u64; 2]>,
+    refused: [u64; 14],
+    done: u64,
+    last: Instant,
+}
+
+impl Tally {
+    fn new() -> Tally {
+        let kinds = kinds();
+        let counts = vec![[0; 2]; kinds.len()];
+        Tally { kinds, counts, refused: [0; 14], done: 0, last: Instant::now() }
+    }
+
+    fn add(&mut self, input: &Input, pair: &Pair) {
+        let place = self.kinds.iter().position(|kind| std::ptr::eq(*kind, input.kind)).expect("a kind of the list");
+        let refusal = pair.expected.refusal as usize;
+        self.counts[place][usize::from(refusal > 0)] += 1;
+        self.refused[refusal] += 1;
+        self.done += 1;
+        if self.last.elapsed() >= Duration::from_secs(1) {
+            self.last = Instant::now();
+            let count = |(kind, [a, r]): (&&Kind, &[u64; 2])| format!("{} {}", kind.name, a + r);
+            let each: Vec<String> = self.kinds.iter().zip(&self.counts).map(count).collect();
+            eprintln!("compare: {} done: {}", self.done, each.join(", "));
+        }
+    }
+
+    fn print(&self) {
+        for (kind, [accepted, refused]) in self.kinds.iter().zip(&self.counts) {
+            println!("  {:<28} {accepted:>7} accepted {refused:>7} refused", kind.name);
+        }
+        let by_number: Vec<String> = (1..14).map(|number| format!("{number}: {}", self.refused[number])).collect();
+        println!("  refusals by number: {}", by_number.join(", "));
+    }
+}

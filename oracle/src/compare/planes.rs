@@ -1,0 +1,339 @@
+//! The filters, the fetches, the SADs and the searches.
+
+use super::answer::{Answer, Pair};
+use super::content;
+use super::guarded::Guarded;
+use super::input::{Drawn, Input, Kind};
+use super::numbers::{component, side};
+use crate::motion_comp::{self, SIXTAP_FILTERS};
+use crate::motion_search::{self as original, LumaRef};
+use crate::motion_vector::Mv;
+use crate::paper::Plane;
+use crate::random::Random;
+use crate::refusals::{self, Place};
+use crate::{counts, model};
+
+const FETCH: &[&str] = &["content", "content_seed", "len", "stride", "width", "height", "x", "y", "mv_row", "mv_col"];
+#[rustfmt::skip]
+const SEARCH: &[&str] = &[
+    "content", "content_seed", "len", "stride", "width", "height", "mb_col", "mb_row", "mv_row", "mv_col",
+    "source", "source_seed",
+];
+#[rustfmt::skip]
+const DIAMOND: &[&str] = &[
+    "content", "content_seed", "len", "stride", "width", "height", "mb_col", "mb_row", "mv_row", "mv_col",
+    "source", "source_seed", "max_iters",
+];
+
+#[rustfmt::skip]
+pub const KINDS: [Kind; 10] = [
+    Kind { name: "interp", weight: 40, fields: &["selector", "support_seed", "levels"], draw: draw_interp,
+           answers: answer_interp },
+    Kind { name: "sixtap_mb_luma", weight: 70, fields: &["mx", "my", "content", "content_seed"], draw: draw_sixtap,
+           answers: answer_sixtap },
+    Kind { name: "fetch_luma_mb_whole_pixel", weight: 75, fields: FETCH, draw: draw_fetch, answers: answer_whole },
+    Kind { name: "fetch_luma_mb_halo", weight: 75, fields: FETCH, draw: draw_fetch, answers: answer_halo },
+    Kind { name: "block_sad_16x16", weight: 50, fields: &["src", "src_seed", "pred", "pred_seed"], draw: draw_pair,
+           answers: answer_block_sad },
+    Kind { name: "mb_luma_sad_at_whole_mv", weight: 90, fields: SEARCH, draw: |r| draw_search(r, 4),
+           answers: answer_whole_sad },
+    Kind { name: "mb_luma_sad_at_mv", weight: 90, fields: SEARCH, draw: |r| draw_search(r, 1), answers: answer_sad },
+    Kind { name: "small_diamond_search_luma", weight: 120, fields: DIAMOND, draw: draw_diamond,
+           answers: answer_diamond },
+    Kind { name: "half_pixel_refine_luma", weight: 80, fields: SEARCH, draw: |r| draw_search(r, 4),
+           answers: answer_half },
+    Kind { name: "quarter_pixel_refine_luma", weight: 80, fields: SEARCH, draw: |r| draw_search(r, 2),
+           answers: answer_quarter },
+];
+
+/// The most bytes that a plane gets; one that needs more is short.
+const MOST: u128 = 70_000;
+
+fn selector(random: &mut Random) -> i128 {
+    let legal = random.below(8) as u32;
+    if random.percent(94) { legal.into() } else { random.pick(&[8, 9, 255, 256, 1 << 31, u32::MAX]).into() }
+}
+
+fn draw_interp(random: &mut Random) -> Drawn {
+    let levels = random.pick(&[2, 2, 4, 256]);
+    (vec![selector(random), random.below(1 << 32).into(), levels], vec![])
+}
+
+fn draw_content(random: &mut Random) -> [i128; 2] {
+    [random.below(content::KINDS).into(), random.below(1 << 32).into()]
+}
+
+fn draw_sixtap(random: &mut Random) -> Drawn {
+    let [content, seed] = draw_content(random);
+    (vec![selector(random), selector(random), content, seed], vec![])
+}
+
+fn draw_pair(random: &mut Random) -> Drawn {
+    ([draw_content(random), draw_content(random)].concat(), vec![])
+}
+
+// A plane's content, length, stride, width and height; huge strides and lengths that are short are few.
+fn draw_plane(random: &mut Random) -> Vec<i128> {
+    let (width, height) = (side(random), side(random));
+    let needed = |stride: u64| u128::from(height.saturating_sub(1)) * u128::from(stride) + u128::from(width);
+    let stride = match random.below(100) {
+        _ if needed(width) > MOST => random.pick(&[0, 1, 1, 2]),
+        0..50 => width,
+        50..70 => width.saturating_add(random.below(40)),
+        70..98 => random.below(width.clamp(1, 200)),
+        _ => random.pick(&[1 << 32, 1 << 63, u64::MAX - 15, u64::MAX]),
+    };
+    let needed = needed(stride).min(MOST) as i128;
+    let len = match random.below(100) {
+        0..75 => needed,
+        75..97 => needed + i128::from(random.below(50)),
+        97..99 => (needed - 1).max(0),
+        _ => 0,
+    };
+    let [content, seed] = draw_content(random);
+    vec![content, seed, len, stride.into(), width.into(), height.into()]
+}
+
+// A place within a plane of a side, near its end, at the ends that are legal and past them.
+fn place(random: &mut Random, side: i128, most: u64) -> i128 {
+    let side = side.clamp(1, 16383) as u64;
+    match random.below(100) {
+        0..65 => random.below(side).min(most).into(),
+        65..85 => (side + random.below(40)).saturating_sub(20).min(most).into(),
+        85..97 => random.pick(&[0, most, most - 1]).into(),
+        97..99 => (most + 1).into(),
+        _ => random.pick(&[most + 2, 1 << 32, 1 << 63, u64::MAX]).into(),
+    }
+}
+
+fn draw_fetch(random: &mut Random) -> Drawn {
+    let mut all = draw_plane(random);
+    let (width, height) = (all[4], all[5]);
+    all.extend([place(random, width, 16368), place(random, height, 16368)]);
+    all.extend([component(random), component(random)].map(i128::from));
+    (all, vec![])
+}
+
+// A vector on a grid, off it and out of range in a few.
+fn vector(random: &mut Random, grid: i16) -> i128 {
+    let on_grid = |v: i16| v / grid * grid;
+    match random.below(100) {
+        0..60 => on_grid(random.below(161) as i16 - 80).into(),
+        60..85 => on_grid(random.below(2047) as i16 - 1023).into(),
+        85..96 => on_grid(random.pick(&[1023, -1023, 1020, -1020, 0])).into(),
+        96..98 => random.below(2047) as i128 - 1023,
+        _ => random.pick(&[1021, -1021, 1022, 1023, -1023, 1024, -1024, 1025, 32767, -32768]).into(),
+    }
+}
+
+fn draw_search(random: &mut Random, grid: i16) -> Drawn {
+    let mut all = draw_plane(random);
+    let (width, height) = (all[4] / 16, all[5] / 16);
+    all.extend([place(random, width, 1023), place(random, height, 1023)]);
+    all.extend([vector(random, grid), vector(random, grid)]);
+    all.extend([random.below(content::SOURCES), random.below(1 << 32)].map(i128::from));
+    (all, vec![])
+}
+
+fn draw_diamond(random: &mut Random) -> Drawn {
+    let (mut all, list) = draw_search(random, 1);
+    let few = random.below(20) as u32;
+    all.push(random.pick(&[0, 1, 2, 3, 4, few, 65281, u32::MAX, u32::MAX]).into());
+    if random.percent(20) {
+        all[8..10].copy_from_slice(&[component(random), component(random)].map(i128::from));
+    }
+    (all, list)
+}
+
+fn answer_interp(input: &Input) -> Pair {
+    let mut random = Random::new(input.get("support_seed") as u64);
+    let levels = input.get("levels").max(1) as u64;
+    let level = |k: u64| (k * 255 / (levels - 1).max(1)) as u8;
+    let support: [u8; 6] = std::array::from_fn(|_| level(random.below(levels)));
+    let selector = input.get("selector") as u32;
+    let lent = Guarded::holding(&support, input.salt);
+    let got = model::interp(selector, lent.array());
+    let model = Answer::new(got.refusal.into(), &[got.sample.into()]).constant("support", &lent);
+    let refusal = refusals::of_selectors(&[selector]);
+    let filtered = || motion_comp::interp(&SIXTAP_FILTERS[selector as usize], &support);
+    let sample = if refusal == 0 { filtered() } else { 0 };
+    Pair { model, expected: Answer::new(refusal, &[sample.into()]) }
+}
+
+fn answer_sixtap(input: &Input) -> Pair {
+    let samples = content::bytes(input.get("content") as u64, input.get("content_seed") as u64, 441, 21);
+    let (mx, my) = (input.get("mx") as u32, input.get("my") as u32);
+    let halo = Guarded::holding(&samples, input.salt);
+    let mut block = Guarded::<u8>::noise(256, input.salt ^ 1);
+    let mut wanted = *block.array::<256>();
+    let got = model::sixtap_mb_luma(halo.array(), mx, my, block.array_mut());
+    let model = Answer::new(got.refusal.into(), &[]).constant("halo", &halo).written("block", &block);
+    let refusal = refusals::of_selectors(&[mx, my]);
+    if refusal == 0 {
+        wanted = motion_comp::sixtap_mb_luma(halo.array(), mx as usize, my as usize, &SIXTAP_FILTERS);
+    }
+    Pair { model, expected: Answer::new(refusal, &[]).holding(&wanted) }
+}
+
+fn answer_block_sad(input: &Input) -> Pair {
+    let samples = |kind, seed| content::bytes(input.get(kind) as u64, input.get(seed) as u64, 256, 16);
+    let src = Guarded::holding(&samples("src", "src_seed"), input.salt);
+    let pred = Guarded::holding(&samples("pred", "pred_seed"), input.salt ^ 1);
+    let sad = model::block_sad_16x16(src.array(), pred.array());
+    let model = Answer::new(0, &[sad.into()]).constant("src", &src).constant("pred", &pred);
+    Pair { model, expected: Answer::new(0, &[original::block_sad_16x16(src.array(), pred.array()).into()]) }
+}
+
+// A plane with a place and a vector.
+struct Case {
+    plane: Guarded<u8>,
+    stride: usize,
+    width: usize,
+    height: usize,
+    at: (usize, usize),
+    mv: Mv,
+}
+
+impl Case {
+    fn of(input: &Input, at: [&str; 2]) -> Case {
+        let [len, stride, width, height] = ["len", "stride", "width", "height"].map(|name| input.size(name));
+        let pitch = if stride == 0 || stride > len { width } else { stride };
+        let bytes = content::bytes(input.get("content") as u64, input.get("content_seed") as u64, len, pitch);
+        let mv = Mv { row: input.get("mv_row") as i16, col: input.get("mv_col") as i16 };
+        let at = (input.size(at[0]), input.size(at[1]));
+        Case { plane: Guarded::holding(&bytes, input.salt), stride, width, height, at, mv }
+    }
+
+    fn luma(&self) -> model::Luma<'_> {
+        let Case { stride, width, height, .. } = *self;
+        model::Luma { plane: self.plane.slice(), stride, width, height }
+    }
+
+    fn reference(&self) -> LumaRef<'_> {
+        let Case { stride, width, height, .. } = *self;
+        LumaRef { plane: self.plane.slice(), stride, width, height }
+    }
+
+    fn place(&self) -> Place {
+        let (len, at) = (self.plane.slice().len() as u64, self.at);
+        let [stride, width, height, x, y] = [self.stride, self.width, self.height, at.0, at.1].map(|n| n as u64);
+        Place { len, stride, width, height, x, y }
+    }
+}
+
+fn answer_whole(input: &Input) -> Pair {
+    let case = Case::of(input, ["x", "y"]);
+    let Case { stride, width, height, at: (x, y), mv, .. } = case;
+    let mut block = Guarded::<u8>::noise(256, input.salt ^ 1);
+    let mut wanted = *block.array::<256>();
+    let got = model::fetch_luma_mb_whole_pixel(case.luma(), x, y, mv, block.array_mut());
+    let model = Answer::new(got.refusal.into(), &[]).constant("plane", &case.plane).written("block", &block);
+    let refusal = refusals::of_fetch(case.place());
+    if refusal == 0 {
+        wanted = motion_comp::fetch_luma_mb_whole_pixel(case.plane.slice(), stride, width, height, x, y, mv);
+    }
+    Pair { model, expected: Answer::new(refusal, &[]).holding(&wanted) }
+}
+
+fn answer_halo(input: &Input) -> Pair {
+    let case = Case::of(input, ["x", "y"]);
+    let Case { stride, width, height, at: (x, y), mv, .. } = case;
+    let mut halo = Guarded::<u8>::noise(441, input.salt ^ 1);
+    let mut wanted = *halo.array::<441>();
+    let got = model::fetch_luma_mb_halo(case.luma(), x, y, mv, halo.array_mut());
+    let model = Answer::new(got.refusal.into(), &[]).constant("plane", &case.plane).written("halo", &halo);
+    let refusal = refusals::of_fetch(case.place());
+    if refusal == 0 {
+        wanted = motion_comp::fetch_luma_mb_halo(case.plane.slice(), stride, width, height, x, y, mv);
+    }
+    Pair { model, expected: Answer::new(refusal, &[]).holding(&wanted) }
+}
+
+// The plane, the source macroblock, and the answer of a search: what the model says, and where the case is
+// accepted what the original does; refused, every number is 0.
+fn searched(
+    input: &Input,
+    refused: impl Fn(Place, Mv) -> u64,
+    model: impl Fn(&Case, &[u8; 256]) -> (u32, Vec<i64>),
+    original: impl Fn(&Case, &[u8; 256]) -> Vec<i64>,
+) -> Pair {
+    let case = Case::of(input, ["mb_col", "mb_row"]);
+    let Case { stride, width, height, at: (col, row), mv, .. } = case;
+    let whole = refusals::of_diamond(case.place()) == 0;
+    let plane = Plane { bytes: case.plane.slice(), stride, width, height };
+    let (kind, seed) = (input.get("source") as u64, input.get("source_seed") as u64);
+    let place = (col.wrapping_mul(16), row.wrapping_mul(16));
+    let samples = content::macroblock(kind, seed, whole.then_some(&plane), place, mv);
+    let src = Guarded::holding(&samples, input.salt ^ 1);
+    let (number, said) = model(&case, src.array());
+    let refusal = refused(case.place(), mv);
+    let wanted = if refusal == 0 { original(&case, &samples) } else { vec![0; said.len()] };
+    let model = Answer::new(number.into(), &said).constant("plane", &case.plane).constant("src_y", &src);
+    Pair { model, expected: Answer::new(refusal, &wanted) }
+}
+
+fn answer_whole_sad(input: &Input) -> Pair {
+    let model = |case: &Case, src: &[u8; 256]| {
+        let got = model::mb_luma_sad_at_whole_mv(case.luma(), case.at, src, case.mv);
+        (got.refusal, vec![got.sad.into()])
+    };
+    let original = |case: &Case, src: &[u8; 256]| {
+        let (col, row) = case.at;
+        vec![original::mb_luma_sad_at_whole_mv(case.reference(), col, row, src, case.mv).into()]
+    };
+    searched(input, |place, mv| refusals::of_vector_on_grid(place, mv, 4), model, original)
+}
+
+fn answer_sad(input: &Input) -> Pair {
+    let model = |case: &Case, src: &[u8; 256]| {
+        let got = model::mb_luma_sad_at_mv(case.luma(), case.at, src, case.mv);
+        (got.refusal, vec![got.sad.into()])
+    };
+    let original = |case: &Case, src: &[u8; 256]| {
+        let (col, row) = case.at;
+        vec![original::mb_luma_sad_at_mv(case.reference(), col, row, src, case.mv).into()]
+    };
+    searched(input, refusals::of_vector, model, original)
+}
+
+fn answer_diamond(input: &Input) -> Pair {
+    let limit = input.get("max_iters") as u32;
+    let model = |case: &Case, src: &[u8; 256]| {
+        let got = model::small_diamond_search_luma(case.luma(), case.at, src, case.mv, limit);
+        let counts = [got.sad, got.sads, got.rounds].map(i64::from);
+        (got.refusal, [&[got.row.into(), got.col.into()], &counts[..]].concat())
+    };
+    let original = |case: &Case, src: &[u8; 256]| {
+        let (col, row) = case.at;
+        let got = counts::diamond(case.reference(), col, row, src, case.mv, limit);
+        let (mv, sad) = (got.answer.mv, got.answer.sad);
+        vec![mv.row.into(), mv.col.into(), sad.into(), got.sads as i64, got.rounds as i64]
+    };
+    searched(input, |place, _| refusals::of_diamond(place), model, original)
+}
+
+fn answer_half(input: &Input) -> Pair {
+    let model = |case: &Case, src: &[u8; 256]| {
+        let got = model::half_pixel_refine_luma(case.luma(), case.at, src, case.mv);
+        (got.refusal, vec![got.row.into(), got.col.into(), got.sad.into()])
+    };
+    let original = |case: &Case, src: &[u8; 256]| {
+        let (col, row) = case.at;
+        let got = original::half_pixel_refine_luma(case.reference(), col, row, src, case.mv);
+        vec![got.mv.row.into(), got.mv.col.into(), got.sad.into()]
+    };
+    searched(input, |place, mv| refusals::of_vector_on_grid(place, mv, 4), model, original)
+}
+
+fn answer_quarter(input: &Input) -> Pair {
+    let model = |case: &Case, src: &[u8; 256]| {
+        let got = model::quarter_pixel_refine_luma(case.luma(), case.at, src, case.mv);
+        (got.refusal, vec![got.row.into(), got.col.into(), got.sad.into()])
+    };
+    let original = |case: &Case, src: &[u8; 256]| {
+        let (col, row) = case.at;
+        let got = original::quarter_pixel_refine_luma(case.reference(), col, row, src, case.mv);
+        vec![got.mv.row.into(), got.mv.col.into(), got.sad.into()]
+    };
+    searched(input, |place, mv| refusals::of_vector_on_grid(place, mv, 2), model, original)
+}

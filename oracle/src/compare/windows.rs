@@ -1,0 +1,146 @@
+//! Windows of frames drawn at random: most of them legal, with blocks that match.
+
+use super::content;
+use super::input::Drawn;
+use super::numbers::strength;
+use crate::random::Random;
+use crate::refusals::{legal_size, packed_size, planes};
+
+type Frame = [u32; 7];
+
+/// The most picture bytes; a window that needs more has planes that do not fit.
+const MOST: u128 = 140_000;
+
+/// Numbers for frame_count and frame_at.
+pub fn draw_numbers(random: &mut Random) -> Vec<u32> {
+    (0..random.below(30)).map(|_| random.next() as u32).collect()
+}
+
+/// The numbers in the order of the builders' fields, and the frames.
+pub fn draw_window(random: &mut Random) -> Drawn {
+    let many = random.below(400) == 0;
+    let size = if many { (1 + random.below(4) as u32, 1 + random.below(4) as u32) } else { draw_size(random) };
+    let count = if many { random.pick(&[1024, 1025]) } else { draw_count(random) };
+    let (content, pitch, mut frames) = draw_frames(random, size, count);
+    let count = frames.len() as u64;
+    if random.percent(20) && count > 1 {
+        let (from, to) = (random.below(count) as usize, random.below(count) as usize);
+        frames[to] = frames[from];
+    }
+    let centre = if random.percent(96) { random.below(count.max(1)) } else { random.pick(&[count, 1 << 32, u64::MAX]) };
+    let needed = bytes_needed(&frames);
+    if random.percent(7) && count > 0 {
+        spoil(random, &mut frames, needed);
+    }
+    let bytes_len = match random.below(100) {
+        0..70 => needed,
+        70..96 => needed + random.below(60),
+        _ => needed.saturating_sub(1),
+    };
+    let samples = if legal_size(size.0.into(), size.1.into()) { packed_size(size.0.into(), size.1.into()) } else { 9 };
+    let seed = random.below(1 << 32);
+    let head = [content, seed, pitch.into(), bytes_len, centre, strength(random).into()].map(i128::from);
+    let lens = [draw_len(random, samples), draw_len(random, samples), draw_len(random, samples)];
+    let mut list = frames.concat();
+    if random.percent(20) {
+        list.extend((0..1 + random.below(6)).map(|_| random.next() as u32));
+    }
+    ([&head[..], &lens].concat(), list)
+}
+
+fn draw_size(random: &mut Random) -> (u32, u32) {
+    let mut side = || match random.below(100) {
+        0..60 => 1 + random.below(40) as u32,
+        _ => random.pick(&[1, 2, 15, 16, 17, 31, 32, 33]),
+    };
+    let (width, height) = (side(), side());
+    match random.below(400) {
+        0..6 => random.pick(&[(16383, 1), (1, 16383), (16383, 2)]),
+        6..16 => random.pick(&[(0, 1), (width, 0), (0, 0), (16384, 1), (1, 16384), (u32::MAX, height)]),
+        16..24 => (64 + width, 64 + height),
+        _ => (width, height),
+    }
+}
+
+fn draw_count(random: &mut Random) -> u64 {
+    match random.below(100) {
+        0 => 0,
+        1..8 => 1,
+        8..80 => 2 + random.below(4),
+        _ => 6 + random.below(5),
+    }
+}
+
+// P, one fewer in a few, or more.
+fn draw_len(random: &mut Random, samples: u64) -> i128 {
+    match random.below(100) {
+        0..60 => samples.into(),
+        60..98 => (samples + random.below(40)).into(),
+        _ => samples.saturating_sub(1).into(),
+    }
+}
+
+// The content of the picture bytes, their pitch and the frames: parts of one texture, packed, or anywhere.
+fn draw_frames(random: &mut Random, (width, height): (u32, u32), count: u64) -> (u64, u32, Vec<Frame>) {
+    let any = random.below(content::KINDS);
+    if width > 200 || height > 200 || width == 0 || height == 0 {
+        let start = |random: &mut Random| random.below(300) as u32;
+        let stride = u32::from(height > 2);
+        let of = |random: &mut Random| [width, height, start(random), start(random), start(random), stride, stride];
+        return (any, 64, (0..count.min(4)).map(|_| of(random)).collect());
+    }
+    match random.below(100) {
+        0..45 => {
+            let pitch = width + 64;
+            let reach = random.pick(&[1, 3, 9, 17]);
+            let frames = (0..count).map(|_| moved(random, (width, height), pitch, reach)).collect();
+            (content::TEXTURE + random.below(2), pitch, frames)
+        }
+        45..80 => {
+            let samples = packed_size(width.into(), height.into()) as u32;
+            let frame = |g: u32| {
+                let (columns, rows) = (width.div_ceil(2), height.div_ceil(2));
+                let y = g % 40 * samples;
+                let u = y + width * height;
+                [width, height, y, u, u + columns * rows, width, columns]
+            };
+            let content = random.pick(&[content::CUT, content::CUT, 6, 6, any]);
+            (content, samples, (0..count as u32).map(frame).collect())
+        }
+        _ => {
+            let stride = |random: &mut Random| random.pick(&[0, 1, 3, width, width + 5, 100]);
+            let frame = |random: &mut Random| {
+                let [y, u, v] = std::array::from_fn(|_| random.below(200) as u32);
+                [width, height, y, u, v, stride(random), stride(random)]
+            };
+            (any, random.pick(&[1, 16, 100]), (0..count).map(|_| frame(random)).collect())
+        }
+    }
+}
+
+// A part of the texture, moved by less than `reach` both ways; chroma lies below and moves by half.
+fn moved(random: &mut Random, (width, height): (u32, u32), pitch: u32, reach: u64) -> Frame {
+    let mut by = || 20 + random.below(2 * reach - 1) as u32 - (reach as u32 - 1);
+    let (x, y) = (by(), by());
+    let rows = height.div_ceil(2);
+    let below = |row: u32| (row + y / 2) * pitch + x / 2;
+    [width, height, y * pitch + x, below(height + 40), below(height + 40 + rows + 30), pitch, pitch]
+}
+
+fn bytes_needed(frames: &[Frame]) -> u64 {
+    let legal = frames.iter().filter(|f| legal_size(f[0].into(), f[1].into()));
+    let end = legal.flat_map(planes).map(|part| part.end()).max().unwrap_or(0);
+    end.min(MOST) as u64
+}
+
+// One number of one frame at an edge.
+fn spoil(random: &mut Random, frames: &mut [Frame], bytes: u64) {
+    let frame = random.below(frames.len() as u64) as usize;
+    let k = random.below(7) as usize;
+    let was = frames[frame][k];
+    frames[frame][k] = match k {
+        0 | 1 => random.pick(&[0, was.wrapping_add(1), was.saturating_sub(1), 16383, 16384, u32::MAX]),
+        2..5 => random.pick(&[bytes as u32, bytes.saturating_sub(1) as u32, u32::MAX, was.wrapping_add(1)]),
+        _ => random.pick(&[u32::MAX, 1 << 31, was.wrapping_add(1), 0]),
+    };
+}
