@@ -14,6 +14,8 @@
 include!(concat!(env!("OUT_DIR"), "/sources.rs"));
 
 #[cfg(all(model, not(sources_absent)))]
+mod bench;
+#[cfg(all(model, not(sources_absent)))]
 mod compare;
 #[cfg(not(sources_absent))]
 mod counts;
@@ -63,6 +65,7 @@ fn main() {
             Some(same) => exit(if same { 0 } else { 1 }),
             None => usage("usage: oracle compare [--inputs N] [--seed S] [--index I] [--quick]"),
         },
+        ["bench"] => bench(),
         _ => usage("usage: oracle answers NAME OUTDIR, or oracle compare, or oracle bench"),
     }
 }
@@ -92,6 +95,16 @@ fn answers(name: &str, _folder: &Path) -> Option<std::io::Result<()>> {
 #[cfg(all(model, not(sources_absent)))]
 fn compare(words: &[&str]) -> Option<bool> {
     compare::run(words)
+}
+
+#[cfg(all(model, not(sources_absent)))]
+fn bench() {
+    bench::run()
+}
+
+#[cfg(not(all(model, not(sources_absent))))]
+fn bench() {
+    without_model()
 }
 
 #[cfg(not(all(model, not(sources_absent))))]

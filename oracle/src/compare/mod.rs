@@ -5,7 +5,7 @@
 
 mod answer;
 mod builds;
-mod content;
+pub mod content;
 mod guarded;
 mod input;
 mod numbers;

@@ -1,0 +1,212 @@
+//! The model's time beside the originals', in one process on the same inputs. Every buffer is warm: a round that
+//! is not measured touches it first and checks that both sides give the same. The original's builder allocates its
+//! picture and its sums in each call; the model's writes to slices that stay.
+
+use crate::arnr::{ArnrConfig, ArnrPicture, build_arnr_altref};
+use crate::compare::content;
+use crate::encoder::I420Frame;
+use crate::model::{self, Luma};
+use crate::motion_comp::{SIXTAP_FILTERS, fetch_luma_mb_halo, sixtap_mb_luma};
+use crate::motion_search::{self as original, LumaRef};
+use crate::motion_vector::Mv;
+use crate::refusals::packed_size;
+use std::hint::black_box;
+use std::time::{Duration, Instant};
+
+const ROUNDS: usize = 41;
+/// What a round of one side takes at least.
+const ROUND: Duration = Duration::from_millis(3);
+const WIDTH: usize = 352;
+const HEIGHT: usize = 288;
+
+pub fn run() {
+    let build = if cfg!(feature = "simd") { "simd" } else { "plain" };
+    println!("bench: Rust {build}, release, opt-level 3; both sides for baseline x86-64");
+    println!("{ROUNDS} rounds, the sides alternated, warm buffers; time of a call, least and median of the rounds");
+    println!("ratio = Rust's time / the model's; the Rust builder allocates its output, the model's is lent it");
+    println!("{:<40} {:>21} {:>21} {:>13}", "", "model", "Rust", "ratio");
+    println!(
+        "{:<40} {:>10} {:>10} {:>10} {:>10} {:>6} {:>6}",
+        "", "least", "median", "least", "median", "least", "med."
+    );
+    filters();
+    sads();
+    searches();
+    let frames = [2, 3, 5, 7, 9, 15].map(|count| ((WIDTH, HEIGHT), count));
+    let sizes = [(176, 144), (704, 576)].map(|size| (size, 7));
+    let windows = [&frames[..], &sizes].concat();
+    let times: Vec<[f64; 2]> = windows.iter().map(|&(size, count)| builder(size, count)).collect();
+    println!("builder, least time for each sample of the picture and each other frame:");
+    for (((width, height), count), least) in windows.into_iter().zip(times) {
+        let shares = packed_size(width as u64, height as u64) as f64 * (count - 1) as f64;
+        let [ours, rust] = least.map(|ns| ns / shares);
+        println!("  {width}x{height}, {count:>2} frames: model {ours:.2} ns, Rust {rust:.2} ns");
+    }
+}
+
+// Measures both sides, prints a line, and answers the least time of each.
+fn measure(name: &str, mut ours: impl FnMut(), mut rust: impl FnMut()) -> [f64; 2] {
+    let calls = calls_a_round(&mut ours).min(calls_a_round(&mut rust)).max(1);
+    let (mut of_ours, mut of_rust) = (Vec::new(), Vec::new());
+    for round in 0..ROUNDS {
+        if round % 2 == 0 {
+            of_ours.push(timed(calls, &mut ours));
+            of_rust.push(timed(calls, &mut rust));
+        } else {
+            of_rust.push(timed(calls, &mut rust));
+            of_ours.push(timed(calls, &mut ours));
+        }
+    }
+    let [a, b] = [of_ours, of_rust].map(least_and_median);
+    let [w, x, y, z] = [a[0], a[1], b[0], b[1]].map(shown);
+    println!("{name:<40} {w:>10} {x:>10} {y:>10} {z:>10} {:>6.2} {:>6.2}", b[0] / a[0], b[1] / a[1]);
+    [a[0], b[0]]
+}
+
+// Nanoseconds a call.
+fn timed(calls: u32, side: &mut impl FnMut()) -> f64 {
+    let start = Instant::now();
+    for _ in 0..calls {
+        side();
+    }
+    start.elapsed().as_secs_f64() * 1e9 / f64::from(calls)
+}
+
+fn calls_a_round(side: &mut impl FnMut()) -> u32 {
+    let mut calls = 1;
+    loop {
+        let taken = Duration::from_secs_f64(timed(calls, side) * f64::from(calls) / 1e9);
+        if taken >= ROUND {
+            return calls;
+        }
+        calls *= 2;
+    }
+}
+
+fn least_and_median(mut times: Vec<f64>) -> [f64; 2] {
+    times.sort_by(f64::total_cmp);
+    [times[0], times[times.len() / 2]]
+}
+
+fn shown(ns: f64) -> String {
+    match ns {
+        ..10_000.0 => format!("{ns:.1} ns"),
+        ..10_000_000.0 => format!("{:.1} us", ns / 1e3),
+        _ => format!("{:.2} ms", ns / 1e6),
+    }
+}
+
+fn filters() {
+    let halo: [u8; 441] = content::bytes(5, 3, 441, 21).try_into().expect("441 samples");
+    for (mx, my) in [(2, 6), (0, 6), (2, 0)] {
+        let mut block = [0; 256];
+        let mut ours = || {
+            model::sixtap_mb_luma(black_box(&halo), black_box(mx), black_box(my), &mut block);
+            *black_box(&block)
+        };
+        let rust = || {
+            let (mx, my) = (black_box(mx) as usize, black_box(my) as usize);
+            black_box(sixtap_mb_luma(black_box(&halo), mx, my, &SIXTAP_FILTERS))
+        };
+        assert_eq!(ours(), rust());
+        measure(&format!("six-tap macroblock ({mx}, {my})"), || _ = ours(), || _ = rust());
+    }
+}
+
+fn reference(plane: &[u8]) -> (Luma<'_>, LumaRef<'_>) {
+    let (stride, width, height) = (WIDTH, WIDTH, HEIGHT);
+    (Luma { plane, stride, width, height }, LumaRef { plane, stride, width, height })
+}
+
+fn sads() {
+    let plane = content::bytes(5, 0, WIDTH * HEIGHT, WIDTH);
+    let (luma, same) = reference(&plane);
+    let one: [u8; 256] = content::bytes(5, 1, 256, 16).try_into().expect("256 samples");
+    let two: [u8; 256] = content::bytes(5, 2, 256, 16).try_into().expect("256 samples");
+    let ours = || black_box(model::block_sad_16x16(black_box(&one), black_box(&two)));
+    let rust = || black_box(original::block_sad_16x16(black_box(&one), black_box(&two)));
+    assert_eq!(ours(), rust());
+    measure("block_sad_16x16", || _ = ours(), || _ = rust());
+    for (name, row, col) in [("inside", 12, -8), ("across the edge", -520, 12)] {
+        let mv = Mv { row, col };
+        let ours = || black_box(model::mb_luma_sad_at_whole_mv(luma, (10, 8), black_box(&one), black_box(mv)).sad);
+        let rust = || black_box(original::mb_luma_sad_at_whole_mv(same, 10, 8, black_box(&one), black_box(mv)));
+        assert_eq!(ours(), rust());
+        measure(&format!("SAD at a whole vector, {name}"), || _ = ours(), || _ = rust());
+        halos(&plane, name, Mv { row: row * 2 + 2, col: col * 2 + 4 });
+    }
+}
+
+fn halos(plane: &[u8], name: &str, mv: Mv) {
+    let mut halo = [0; 441];
+    let mut ours = || {
+        model::fetch_luma_mb_halo(reference(black_box(plane)).0, 160, 128, black_box(mv), &mut halo);
+        *black_box(&halo)
+    };
+    let rust = || black_box(fetch_luma_mb_halo(black_box(plane), WIDTH, WIDTH, HEIGHT, 160, 128, black_box(mv)));
+    assert_eq!(ours(), rust());
+    measure(&format!("halo fetch, {name}"), || _ = ours(), || _ = rust());
+}
+
+type Source = ((usize, usize), [u8; 256]);
+
+// The diamond and both refinements for each of the 396 macroblocks of a texture that moved by (5, -3), with noise.
+fn searches() {
+    let plane = content::bytes(4, 20 + 256 * 20, WIDTH * HEIGHT, WIDTH);
+    let moved = content::bytes(5, 25 + 256 * 17, WIDTH * HEIGHT, WIDTH);
+    let (luma, same) = reference(&plane);
+    let source = |i: usize| {
+        let (col, row) = (i % 22, i / 22);
+        let at = |k: usize| moved[(row * 16 + k / 16) * WIDTH + col * 16 + k % 16];
+        ((col, row), std::array::from_fn(at))
+    };
+    let sources: Vec<Source> = (0..396).map(source).collect();
+    let ours = |(mb, src): &Source| {
+        let d = model::small_diamond_search_luma(luma, *mb, src, Mv::default(), 64);
+        let h = model::half_pixel_refine_luma(luma, *mb, src, Mv { row: d.row, col: d.col });
+        let q = model::quarter_pixel_refine_luma(luma, *mb, src, Mv { row: h.row, col: h.col });
+        black_box((q.row, q.col, q.sad))
+    };
+    let rust = |(mb, src): &Source| {
+        let d = original::small_diamond_search_luma(same, mb.0, mb.1, src, Mv::default(), 64);
+        let h = original::half_pixel_refine_luma(same, mb.0, mb.1, src, d.mv);
+        let q = original::quarter_pixel_refine_luma(same, mb.0, mb.1, src, h.mv);
+        black_box((q.mv.row, q.mv.col, q.sad))
+    };
+    assert!(sources.iter().all(|source| ours(source) == rust(source)));
+    let ours = || black_box(&sources).iter().for_each(|source| _ = ours(source));
+    let rust = || black_box(&sources).iter().for_each(|source| _ = rust(source));
+    measure("diamond, half, quarter, 396 macroblocks", ours, rust);
+}
+
+// The pictures of a moving texture with noise, packed.
+fn pictures((width, height): (usize, usize), count: usize) -> Vec<u8> {
+    let (columns, rows) = (width.div_ceil(2), height.div_ceil(2));
+    let plane = |seed: usize, columns: usize, rows: usize| content::bytes(5, seed as u64, columns * rows, columns);
+    let chroma = |g: usize, k: usize| plane(100 * k + g + 256 * g, columns, rows);
+    (0..count).flat_map(|g| [plane(2 * g + 256 * 3 * g, width, height), chroma(g, 1), chroma(g, 2)].concat()).collect()
+}
+
+// The builder at strength 3, the centre in the middle.
+fn builder((width, height): (usize, usize), count: usize) -> [f64; 2] {
+    let samples = packed_size(width as u64, height as u64) as usize;
+    let bytes = pictures((width, height), count);
+    let (y, columns) = (width * height, width.div_ceil(2));
+    let u = y + columns * height.div_ceil(2);
+    let number = |g: usize| [width, height, g * samples, g * samples + y, g * samples + u, width, columns];
+    let numbers: Vec<u32> = (0..count).flat_map(number).map(|n| n as u32).collect();
+    let packed = |y, u, v| I420Frame::packed(width as u32, height as u32, y, u, v);
+    let frames: Vec<I420Frame> = bytes.chunks(samples).map(|p| packed(&p[..y], &p[y..u], &p[u..])).collect();
+    let (mut output, mut sums, mut weights) = (vec![0; samples], vec![0; samples], vec![0; samples]);
+    let mut ours = || {
+        let lent = model::Lent { output: &mut output, sums: &mut sums, weights: &mut weights };
+        black_box(model::build_from_numbers(black_box(&bytes), black_box(&numbers), count / 2, 3, lent));
+    };
+    let rust = || build_arnr_altref(black_box(&frames), count / 2, &ArnrConfig::new(3)).expect("a legal window");
+    ours();
+    let ArnrPicture { y, u, v, .. } = rust();
+    let name = format!("builder {width}x{height}, {count} frames");
+    let times = measure(&name, ours, || _ = black_box(rust()));
+    assert_eq!(output, [y, u, v].concat());
+    times
+}
