@@ -1,0 +1,62 @@
+//! Denoises raw pictures and searches luma motion with the model's library. `vp8model --help` says how.
+
+mod denoise;
+mod failure;
+mod files;
+mod model;
+mod progress;
+mod search;
+mod words;
+
+use failure::Failure;
+use std::process::ExitCode;
+
+const HELP: &str = "\
+vp8model: a proved model of a VP8 encoder's picture pre-filter and luma motion search
+
+  vp8model denoise --width W --height H --strength S --centre C [--sums FILE] [--weights FILE] IN.i420 OUT.i420
+
+    Reads raw I420 frames (Y, U, V, packed, 8 bits; chroma is half of each side, rounded up), as many as the file's
+    length gives, and writes frame C (counted from 0) with the others blended in, packed. Strength 0 writes the
+    centre as it is; 7 to 255 are read as 6. --sums and --weights get the sums and the total weights of the samples,
+    in the same order, as 32-bit numbers, least byte first; where the centre is only written as it is (one frame, or
+    strength 0) they get nothing. Sides are 1 to 16383 and frames at most 1024. A plane's start is a 32-bit number:
+    where one lies 4 GiB or more into the file, that is an error of the file (status 2), before any frame is read.
+
+  vp8model search --width W --height H [--limit N] REFERENCE.y SOURCE.y
+
+    Reads two luma planes and prints a line for each macroblock of the source: its column and row, then the diamond's
+    vector, SAD, SADs computed and rounds made, then vector and SAD after half and after quarter refinement. Vectors
+    are rows and columns in quarter pixels. The diamond begins at (0, 0) and makes at most N rounds (default
+    4294967295). Macroblocks past the right and bottom edge repeat the source's edge samples, as the reference does.
+
+Exit status: 0 done; 1 the model refuses, with document 01's number and line; 2 the words, a file or memory.
+";
+
+fn main() -> ExitCode {
+    let words = std::env::args_os().skip(1).map(|word| word.into_string());
+    let words = words.collect::<Result<Vec<String>, _>>();
+    match words.map_err(|word| Failure::Usage(format!("{word:?} is not UTF-8"))).and_then(|words| run(&words)) {
+        Ok(()) => ExitCode::SUCCESS,
+        Err(failure) => {
+            eprintln!("vp8model: {}", failure.said());
+            if let Failure::Usage(_) = failure {
+                eprintln!("vp8model: see vp8model --help");
+            }
+            ExitCode::from(failure.status())
+        }
+    }
+}
+
+fn run(words: &[String]) -> Result<(), Failure> {
+    if words.iter().any(|word| word == "--help") {
+        print!("{HELP}");
+        return Ok(());
+    }
+    match words.first().map(String::as_str) {
+        Some("denoise") => denoise::run(&words[1..]),
+        Some("search") => search::run(&words[1..]),
+        Some(other) => Err(Failure::Usage(format!("no command {other}: expected denoise or search"))),
+        None => Err(Failure::Usage("expected a command, denoise or search".to_string())),
+    }
+}

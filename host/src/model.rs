@@ -1,0 +1,151 @@
+//! The exports that this program calls, as include/vp8model.h declares them.
+
+use crate::failure::Failure;
+
+#[repr(C)]
+#[derive(Clone, Copy)]
+pub struct Frame {
+    pub width: u32,
+    pub height: u32,
+    pub y: u32,
+    pub u: u32,
+    pub v: u32,
+    pub luma_stride: u32,
+    pub chroma_stride: u32,
+}
+
+#[repr(C)]
+pub struct Build {
+    refusal: u32,
+    width: u32,
+    height: u32,
+    pub accepted: u32,
+    other_width: u32,
+    other_height: u32,
+    frame: u32,
+}
+
+#[repr(C)]
+pub struct Diamond {
+    refusal: u32,
+    pub row: i16,
+    pub col: i16,
+    pub sad: u32,
+    pub sads: u32,
+    pub rounds: u32,
+}
+
+#[repr(C)]
+pub struct Search {
+    refusal: u32,
+    pub row: i16,
+    pub col: i16,
+    pub sad: u32,
+}
+
+#[rustfmt::skip]
+unsafe extern "C" {
+    fn vp8model_build_arnr_altref(
+        bytes: *const u8, bytes_len: usize, frames: *const Frame, frames_len: usize, centre: usize, strength: u8,
+        output: *mut u8, output_len: usize, sums: *mut u32, sums_len: usize, weights: *mut u32, weights_len: usize,
+    ) -> Build;
+    fn vp8model_small_diamond_search_luma(
+        plane: *const u8, len: usize, stride: usize, width: usize, height: usize, mb_col: usize, mb_row: usize,
+        src_y: &[u8; 256], center_row: i16, center_col: i16, max_iters: u32,
+    ) -> Diamond;
+    fn vp8model_half_pixel_refine_luma(
+        plane: *const u8, len: usize, stride: usize, width: usize, height: usize, mb_col: usize, mb_row: usize,
+        src_y: &[u8; 256], center_row: i16, center_col: i16,
+    ) -> Search;
+    fn vp8model_quarter_pixel_refine_luma(
+        plane: *const u8, len: usize, stride: usize, width: usize, height: usize, mb_col: usize, mb_row: usize,
+        src_y: &[u8; 256], center_row: i16, center_col: i16,
+    ) -> Search;
+}
+
+/// What a build fills: the picture, packed, its sums and its total weights.
+pub struct Filled {
+    pub output: Vec<u8>,
+    pub sums: Vec<u32>,
+    pub weights: Vec<u32>,
+}
+
+#[rustfmt::skip]
+pub fn build(
+    bytes: &[u8], frames: &[Frame], centre: usize, strength: u8, filled: &mut Filled,
+) -> Result<Build, Failure> {
+    let Filled { output, sums, weights } = filled;
+    // SAFETY: each pointer is that of a slice of the length beside it, and no two share bytes.
+    let built = unsafe {
+        vp8model_build_arnr_altref(
+            bytes.as_ptr(), bytes.len(), frames.as_ptr(), frames.len(), centre, strength,
+            output.as_mut_ptr(), output.len(), sums.as_mut_ptr(), sums.len(), weights.as_mut_ptr(), weights.len(),
+        )
+    };
+    let Build { width, height, other_width, other_height, frame, .. } = built;
+    let values = match built.refusal {
+        3 => format!(": {width} by {height}"),
+        4 => format!(": {other_width} by {other_height}, the centre's {width} by {height}"),
+        5 => format!(": frame {frame}"),
+        _ => String::new(),
+    };
+    accepted(built.refusal, &values).map(|()| built)
+}
+
+/// A reference plane, packed.
+#[derive(Clone, Copy)]
+pub struct Reference<'a> {
+    pub plane: &'a [u8],
+    pub width: usize,
+    pub height: usize,
+}
+
+/// A macroblock's column and row.
+pub type Place = (usize, usize);
+
+pub fn diamond(r: Reference, (col, row): Place, source: &[u8; 256], limit: u32) -> Result<Diamond, Failure> {
+    let (plane, len) = (r.plane.as_ptr(), r.plane.len());
+    // SAFETY: the pointer is that of a slice of the length beside it.
+    let found = unsafe {
+        vp8model_small_diamond_search_luma(plane, len, r.width, r.width, r.height, col, row, source, 0, 0, limit)
+    };
+    accepted(found.refusal, "").map(|()| found)
+}
+
+pub fn half(r: Reference, (col, row): Place, source: &[u8; 256], from: &Diamond) -> Result<Search, Failure> {
+    let (plane, len) = (r.plane.as_ptr(), r.plane.len());
+    // SAFETY: the pointer is that of a slice of the length beside it.
+    let found = unsafe {
+        vp8model_half_pixel_refine_luma(plane, len, r.width, r.width, r.height, col, row, source, from.row, from.col)
+    };
+    accepted(found.refusal, "").map(|()| found)
+}
+
+pub fn quarter(r: Reference, (col, row): Place, source: &[u8; 256], from: &Search) -> Result<Search, Failure> {
+    let (plane, len) = (r.plane.as_ptr(), r.plane.len());
+    // SAFETY: the pointer is that of a slice of the length beside it.
+    let found = unsafe {
+        vp8model_quarter_pixel_refine_luma(plane, len, r.width, r.width, r.height, col, row, source, from.row, from.col)
+    };
+    accepted(found.refusal, "").map(|()| found)
+}
+
+fn accepted(refusal: u32, values: &str) -> Result<(), Failure> {
+    let line = match refusal {
+        0 => return Ok(()),
+        1 => "the centre index is not below the frame count",
+        2 => "the frame count exceeds 1024",
+        3 => "the centre's width or height is 0 or above 16383",
+        4 => "a frame's size differs from the centre's",
+        5 => "a plane does not fit the picture bytes",
+        6 => "the output slice is shorter than the samples of all three planes",
+        7 => "a working slice is shorter than the samples of all three planes",
+        8 => "the reference width or height is 0 or above 16383",
+        9 => "the reference plane is shorter than (height - 1) times stride + width",
+        10 => "a macroblock column or row exceeds 1023",
+        11 => "a component of a vector is outside -1023..1023",
+        12 => "a component of a vector is off its grid",
+        _ => "a number that document 01 does not list for this call",
+    };
+    Err(Failure::Refused(format!("the model refuses, number {refusal}: {line}{values}")))
+}

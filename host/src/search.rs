@@ -1,0 +1,67 @@
+//! `vp8model search`: the motion of each macroblock of one luma plane in another.
+
+use crate::failure::Failure;
+use crate::files::{append, opened, room};
+use crate::model::{self, Place, Reference};
+use crate::progress::Progress;
+use crate::words::Words;
+use std::io::Write;
+use std::path::Path;
+
+const HEADER: &str = "col row | diamond: row col sad sads rounds | half: row col sad | quarter: row col sad";
+
+pub fn run(words: &[String]) -> Result<(), Failure> {
+    let words = Words::parse(words, &["--width", "--height", "--limit"])?;
+    let (width, height): (u32, u32) = (words.number("--width", u32::MAX)?, words.number("--height", u32::MAX)?);
+    let limit = words.optional("--limit", u32::MAX)?.unwrap_or(u32::MAX);
+    let [reference, source] = words.files("REFERENCE.y and SOURCE.y")?;
+    let samples = u64::from(width) * u64::from(height);
+    let (plane, moved) = (read_plane(&reference, samples)?, read_plane(&source, samples)?);
+    let (width, height) = (width as usize, height as usize);
+    let reference = Reference { plane: &plane, width, height };
+    let source = Reference { plane: &moved, width, height };
+    // a plane without samples has one macroblock, for the model to refuse
+    let (columns, rows) = (width.div_ceil(16).max(1), height.div_ceil(16).max(1));
+    let mut progress = Progress::new("search", "macroblock rows", rows as u64);
+    for row in 0..rows {
+        let mut lines = if row == 0 { format!("{HEADER}\n") } else { String::new() };
+        for col in 0..columns {
+            lines += &searched(reference, source, (col, row), limit)?;
+        }
+        let cause = std::io::stdout().write_all(lines.as_bytes()).err();
+        cause.map_or(Ok(()), |cause| Err(Failure::of_file("written", Path::new("standard output"), cause)))?;
+        progress.at(row as u64 + 1);
+    }
+    Ok(())
+}
+
+fn read_plane(path: &Path, samples: u64) -> Result<Vec<u8>, Failure> {
+    let (mut file, len) = opened(path)?;
+    if len != samples {
+        return Err(Failure::Files(format!("{}: {len} bytes, expected a plane of {samples}", path.display())));
+    }
+    let mut plane = room(len, "bytes of a plane")?;
+    append(&mut file, path, len, &mut plane)?;
+    Ok(plane)
+}
+
+// One line: the diamond from (0, 0), half refinement of what it found, quarter refinement of that.
+fn searched(reference: Reference, source: Reference, place: Place, limit: u32) -> Result<String, Failure> {
+    let block = macroblock(source, place);
+    let d = model::diamond(reference, place, &block, limit)?;
+    let h = model::half(reference, place, &block, &d)?;
+    let q = model::quarter(reference, place, &block, &h)?;
+    let (col, row) = place;
+    let diamond = format!("{} {} {} {} {}", d.row, d.col, d.sad, d.sads, d.rounds);
+    Ok(format!("{col} {row} | {diamond} | {} {} {} | {} {} {}\n", h.row, h.col, h.sad, q.row, q.col, q.sad))
+}
+
+// The macroblock's samples; past the right and bottom edge, the nearest edge sample.
+fn macroblock(source: Reference, (col, row): Place) -> [u8; 256] {
+    let Reference { plane, width, height } = source;
+    if plane.is_empty() {
+        return [0; 256];
+    }
+    let at = |x: usize, y: usize| plane[y.min(height - 1) * width + x.min(width - 1)];
+    std::array::from_fn(|i| at(col * 16 + i % 16, row * 16 + i / 16))
+}
