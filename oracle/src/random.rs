@@ -30,6 +30,14 @@ impl Random {
         (self.next() >> 48) as u16 as i16
     }
 
+    pub fn bytes(&mut self, n: usize) -> Vec<u8> {
+        (0..n).map(|_| self.byte()).collect()
+    }
+}
+
+// For the comparison only.
+#[cfg(model)]
+impl Random {
     /// One of several.
     pub fn pick<T: Copy>(&mut self, of: &[T]) -> T {
         of[self.below(of.len() as u64) as usize]
@@ -38,9 +46,5 @@ impl Random {
     /// True in so many of a hundred.
     pub fn percent(&mut self, n: u64) -> bool {
         self.below(100) < n
-    }
-
-    pub fn bytes(&mut self, n: usize) -> Vec<u8> {
-        (0..n).map(|_| self.byte()).collect()
     }
 }

@@ -26,6 +26,7 @@ struct Run {
     seed: u64,
     index: Option<u64>,
     plant: bool,
+    trace: bool,
 }
 
 /// Runs the comparison; whether every answer was the same. None where the words are not understood.
@@ -37,6 +38,9 @@ pub fn run(words: &[&str]) -> Option<bool> {
     let mut differences = 0;
     for index in from..to {
         let input = Input::draw(&tally.kinds, run.seed, index);
+        if run.trace {
+            eprintln!("compare: index {index}: {}", input.to_string().replace('\n', ";"));
+        }
         let pair = answers(&input, run.plant);
         tally.add(&input, &pair);
         if !pair.same() {
@@ -46,17 +50,19 @@ pub fn run(words: &[&str]) -> Option<bool> {
         }
     }
     tally.print();
-    println!("compare: {} inputs, {differences} differences ({BUILD})", tally.done);
+    let plural = if differences == 1 { "" } else { "s" };
+    println!("compare: {} inputs, {differences} difference{plural} ({BUILD})", tally.done);
     Some(differences == 0)
 }
 
 fn parsed(words: &[&str]) -> Option<Run> {
-    let mut run = Run { inputs: 200_000, seed: 6386, index: None, plant: false };
+    let mut run = Run { inputs: 200_000, seed: 6386, index: None, plant: false, trace: false };
     let mut words = words.iter();
     while let Some(&word) = words.next() {
         match word {
             "--quick" => run.inputs = 5_000,
             "--plant" => run.plant = true,
+            "--trace" => run.trace = true,
             "--inputs" => run.inputs = words.next()?.parse().ok()?,
             "--seed" => run.seed = words.next()?.parse().ok()?,
             "--index" => run.index = Some(words.next()?.parse().ok()?),
