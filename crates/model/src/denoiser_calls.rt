@@ -1,7 +1,7 @@
 // Weights, configurations, frames as numbers and the builders for C.
 use crate::answers::Build;
-use arnr::ArnrConfig;
 use arnr::BuildAnswer;
+use weights::ArnrConfig;
 use window::Checked;
 use window::Frame;
 use window::Refusal;

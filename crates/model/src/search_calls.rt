@@ -19,7 +19,7 @@ ghost use Rattle.model.specs.Answers.{mvOf, sadNumbers, searchNumbers, d
 pub extern "C" fn vp8model_block_sad_16x16(src: &[u8; 256], pred: &[u8; 256]) -> u32
     ensures { λ r. ⌜ r ≡ sad16 (now (src .entry)) (now (pred .entry)) ⌝ }
 {
-    motion_search::motion_search::block_sad_16x16(*src, *pred)
+    motion_search::motion_search::block_sad_16x16(src, pred)
 }
 
 // The numbers of a SAD's answer.
@@ -74,7 +74,7 @@ pub extern "C" fn vp8model_mb_luma_sad_at_whole_mv(
         height,
         mb_col,
         mb_row,
-        *src_y,
+        src_y,
         mv,
     );
     sad_numbers(answer)
@@ -109,7 +109,7 @@ pub extern "C" fn vp8model_mb_luma_sad_at_mv(
         height,
         mb_col,
         mb_row,
-        *src_y,
+        src_y,
         mv,
     );
     sad_numbers(answer)
@@ -179,7 +179,7 @@ pub extern "C" fn vp8model_small_diamond_search_luma(
         height,
         mb_col,
         mb_row,
-        *src_y,
+        src_y,
         center,
         max_iters,
     );
@@ -246,7 +246,7 @@ pub extern "C" fn vp8model_half_pixel_refine_luma(
         height,
         mb_col,
         mb_row,
-        *src_y,
+        src_y,
         center,
     );
     search_numbers(answer)
@@ -281,7 +281,7 @@ pub extern "C" fn vp8model_quarter_pixel_refine_luma(
         height,
         mb_col,
         mb_row,
-        *src_y,
+        src_y,
         center,
     );
     search_numbers(answer)

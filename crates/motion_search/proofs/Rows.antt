@@ -33,15 +33,19 @@ rows-more src plane at stride r s v e f =
   where
     here : ℕ → ℕ
     here k = apart src plane at stride (r * 16 + k)
+
     one : ℕ → ℕ
     one k = distance (getD (midOf (r * 16) 32 src) k 0) (getD (midOf (at + r * stride) 16 plane) k 0)
+
     two : ℕ → ℕ
     two k = distance (getD (midOf (r * 16) 32 src) (k + 16) 0) (getD (midOf (at + r * stride + stride) 16 plane) k 0)
+
     first : (k : ℕ) → k < 16 → one k ≡ here k
     first k h =
         let q : (r * 16 + k) / 16 ≡ r = omega arith in
         let m : (r * 16 + k) % 16 ≡ k = omega arith in
         rw (mid-at (r * 16) 32 src k (omega arith), mid-at (at + r * stride) 16 plane k h, q, m)
+
     second : (k : ℕ) → k < 16 → two k ≡ here (16 + k)
     second k h =
         let q : (r * 16 + (16 + k)) / 16 ≡ r + 1 = omega arith in
@@ -49,6 +53,7 @@ rows-more src plane at stride r s v e f =
         let p : k + 16 ≡ 16 + k = omega arith in
         let t : at + (r + 1) * stride ≡ at + r * stride + stride = omega (arith, add-mul r 1 stride) in
         rw (p, mid-at (r * 16) 32 src (16 + k) (omega arith), mid-at (at + r * stride + stride) 16 plane k h, q, m, t)
+
     both : sumBelow one 16 + sumBelow two 16 ≡ sumBelow here 16 + sumBelow (λ k. here (16 + k)) 16
     both = rw (sum-same one here 16 first, sum-same two (λ k. here (16 + k)) 16 second)
 

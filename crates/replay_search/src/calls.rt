@@ -118,11 +118,11 @@ fn of_diamond(answer: DiamondAnswer) -> Outcome {
 }
 
 fn whole_sad(plane: &[u8], p: Place, src: [u8; 256]) -> Outcome {
-    of_sad(mb_luma_sad_at_whole_mv(plane, p.stride, p.width, p.height, p.col, p.row, src, p.mv))
+    of_sad(mb_luma_sad_at_whole_mv(plane, p.stride, p.width, p.height, p.col, p.row, &src, p.mv))
 }
 
 fn any_sad(plane: &[u8], p: Place, src: [u8; 256]) -> Outcome {
-    of_sad(mb_luma_sad_at_mv(plane, p.stride, p.width, p.height, p.col, p.row, src, p.mv))
+    of_sad(mb_luma_sad_at_mv(plane, p.stride, p.width, p.height, p.col, p.row, &src, p.mv))
 }
 
 fn diamond(plane: &[u8], p: Place, src: [u8; 256], limit: u32) -> Outcome {
@@ -133,14 +133,14 @@ fn diamond(plane: &[u8], p: Place, src: [u8; 256], limit: u32) -> Outcome {
         p.height,
         p.col,
         p.row,
-        src,
+        &src,
         p.mv,
         limit,
     ))
 }
 
 fn half(plane: &[u8], p: Place, src: [u8; 256]) -> Outcome {
-    of_search(half_pixel_refine_luma(plane, p.stride, p.width, p.height, p.col, p.row, src, p.mv))
+    of_search(half_pixel_refine_luma(plane, p.stride, p.width, p.height, p.col, p.row, &src, p.mv))
 }
 
 fn quarter(plane: &[u8], p: Place, src: [u8; 256]) -> Outcome {
@@ -151,7 +151,7 @@ fn quarter(plane: &[u8], p: Place, src: [u8; 256]) -> Outcome {
         p.height,
         p.col,
         p.row,
-        src,
+        &src,
         p.mv,
     ))
 }
@@ -161,7 +161,8 @@ fn answered(kind: usize, samples: &[u8], record: &[u8; 128]) -> Outcome {
     let start = number(record, 2);
     let src = block(samples, number(record, 9));
     if kind == 1 {
-        return measured(block_sad_16x16(src, block(samples, start)));
+        let pred = block(samples, start);
+        return measured(block_sad_16x16(&src, &pred));
     }
     let plane = part(samples, start, number(record, 3));
     let p = place_of(record);

@@ -27,8 +27,7 @@ whole-sad-requires c κs =
     let a = c .before .before .before .before .before .args in
     let e = c .before .before .before .checked in
     let t = c .before .enum-told .given .1 in
-    let s = site (a .stride) (a .width) (a .height) (a .mb-col) (a .mb-row) in
-    (
+    let s = site (a .stride) (a .width) (a .height) (a .mb-col) (a .mb-row) in (
       ready 4 (a .plane .now) s (a .mv) (e .result) _ (e .ensures) t (a .src-y .now) (search needs),
       whole-here 4 (a .plane .now) s (a .mv) (e .result) _ (e .ensures) t refl,
     )

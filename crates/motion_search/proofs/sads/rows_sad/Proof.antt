@@ -111,7 +111,7 @@ loop-again c =
       omega (arith, c .before .before .before .before .loop-test .taken, l .loop .inv .1),
       omega (arith, l .loop .inv .1),
       rows-more (s .src .now) (s .plane .now) (s .at) (s .stride) (l .loop .r) (l .loop .sum) (c .two-rows-sad .result) (l .loop .inv .2)
-      (simp add-sub-cancel-left at (c .two-rows-sad .ensures .0)),
+          (simp add-sub-cancel-left at (c .two-rows-sad .ensures .0)),
       omega (arith, l .loop .inv .3, c .two-rows-sad .ensures .1),
     )
 
