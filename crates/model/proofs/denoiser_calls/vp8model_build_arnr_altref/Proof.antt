@@ -50,12 +50,12 @@ use denote.Triple.Walked.{says, Stays, stay-none, stay-none-slice, gave-slice, w
 use denote.Exit.{yes}
 use Rattle.window.specs.declared.Frame.{Frame}
 use Rattle.window.proofs.Frame as T
-use Rattle.arnr.specs.declared.ArnrConfig.{ArnrConfig}
+use Rattle.weights.specs.declared.ArnrConfig.{ArnrConfig}
 use Rattle.arnr.specs.declared.BuildAnswer.{BuildAnswer}
 use Rattle.arnr.specs.Demand.{Held}
 use Rattle.arnr.specs.Build.{asked, BuildInput, BuildIs, buildOutcome}
-use Rattle.arnr.proofs.ArnrConfig as Cf
-use Rattle.arnr.proofs.ArnrConfig.Laws as Cf′
+use Rattle.weights.proofs.ArnrConfig as Cf
+use Rattle.weights.proofs.ArnrConfig.Laws as Cf′
 use Rattle.arnr.proofs.BuildAnswer as S
 use Rattle.arnr.proofs.BuildAnswer.Laws as S′
 use Rattle.altref.specs.Records.{flat}

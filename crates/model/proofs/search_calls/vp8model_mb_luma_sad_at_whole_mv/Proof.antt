@@ -14,7 +14,7 @@ sad-numbers-requires c κs = search needs
 
 returns : tie.Need-returns
 returns c =
-    let fits = c .before .before .before .before .fits in
+    let fits = c .before .before .before .fits in
     let e = simp (toZ-ofZ (fits .mv-row), toZ-ofZ (fits .mv-col)) at (c .before .mb-luma-sad-at-whole-mv .ensures) in
     c .sad-numbers .ensures ∙ ap sadNumbers e
 

@@ -16,7 +16,7 @@ search-numbers-requires c κs = search needs
 
 returns : tie.Need-returns
 returns c =
-    let fits = c .before .before .before .before .fits in
+    let fits = c .before .before .before .fits in
     let e = simp (toZ-ofZ (fits .center-row), toZ-ofZ (fits .center-col)) at (c .before .quarter-pixel-refine-luma .ensures) in
     c .search-numbers .ensures ∙ ap searchNumbers e
 

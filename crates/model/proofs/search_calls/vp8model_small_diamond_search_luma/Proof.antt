@@ -16,7 +16,7 @@ diamond-numbers-requires c κs = search needs
 
 returns : tie.Need-returns
 returns c =
-    let fits = c .before .before .before .before .fits in
+    let fits = c .before .before .before .fits in
     let e = simp (toZ-ofZ (fits .center-row), toZ-ofZ (fits .center-col)) at (c .before .small-diamond-search-luma .ensures) in
     c .diamond-numbers .ensures ∙ ap diamondNumbers e
 
