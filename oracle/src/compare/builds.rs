@@ -23,8 +23,8 @@ pub const KINDS: [Kind; 5] = [
                (vec![g.into()], draw_numbers(r))
            }, answers: answer_at },
     Kind { name: "check_build", weight: 40, fields: BUILD, draw: draw_window, answers: answer_check },
-    Kind { name: "build_from_numbers", weight: 55, fields: BUILD, draw: draw_window, answers: answer_numbers },
-    Kind { name: "build_arnr_altref", weight: 55, fields: BUILD, draw: draw_window, answers: answer_records },
+    Kind { name: "build_from_numbers", weight: 90, fields: BUILD, draw: draw_window, answers: answer_numbers },
+    Kind { name: "build_arnr_altref", weight: 90, fields: BUILD, draw: draw_window, answers: answer_records },
 ];
 
 fn answer_count(input: &Input) -> Pair {
