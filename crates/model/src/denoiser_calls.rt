@@ -85,64 +85,41 @@ pub extern "C" fn vp8model_frame_at(numbers: &[u32], g: usize) -> Frame
     window::frame_at(numbers, g)
 }
 
+// A build's numbers in order.
+fn numbers_of(
+    refusal: u32,
+    width: u32,
+    height: u32,
+    accepted: u32,
+    other_width: u32,
+    other_height: u32,
+    frame: u32,
+) -> Build
+    ensures { λ r. ⌜ r ≡ build refusal width height accepted «other_width» «other_height» frame ⌝ }
+{
+    Build {
+        refusal: refusal,
+        width: width,
+        height: height,
+        accepted: accepted,
+        other_width: other_width,
+        other_height: other_height,
+        frame: frame,
+    }
+}
+
 // The numbers of a refusal.
 fn refusal_numbers(refusal: Refusal) -> Build
     ensures { λ r. ⌜ r ≡ buildNumbers (refusalOutcome refusal) ⌝ }
 {
-    let mut b = Build {
-        refusal: 0,
-        width: 0,
-        height: 0,
-        accepted: 0,
-        other_width: 0,
-        other_height: 0,
-        frame: 0,
-    };
     match refusal {
-        Refusal::NoCentre => {
-            b.refusal = 1;
-        }
-        Refusal::TooManyFrames => {
-            b.refusal = 2;
-        }
-        Refusal::BadSize(size) => {
-            b.refusal = 3;
-            b.width = size.width;
-            b.height = size.height;
-        }
-        Refusal::OtherSize(size, centre) => {
-            b.refusal = 4;
-            b.width = centre.width;
-            b.height = centre.height;
-            b.other_width = size.width;
-            b.other_height = size.height;
-        }
-        Refusal::PlaneUnfit(frame) => {
-            b.refusal = 5;
-            b.frame = frame;
-        }
-        Refusal::ShortOutput => {
-            b.refusal = 6;
-        }
-        Refusal::ShortWorking => {
-            b.refusal = 7;
-        }
-    }
-    b
-}
-
-// The numbers of an accepted call.
-fn accepted_numbers(width: u32, height: u32, blocks: u32) -> Build
-    ensures { λ r. ⌜ r ≡ build 0 width height blocks 0 0 0 ⌝ }
-{
-    Build {
-        refusal: 0,
-        width: width,
-        height: height,
-        accepted: blocks,
-        other_width: 0,
-        other_height: 0,
-        frame: 0,
+        Refusal::NoCentre => numbers_of(1, 0, 0, 0, 0, 0, 0),
+        Refusal::TooManyFrames => numbers_of(2, 0, 0, 0, 0, 0, 0),
+        Refusal::BadSize(s) => numbers_of(3, s.width, s.height, 0, 0, 0, 0),
+        Refusal::OtherSize(s, c) => numbers_of(4, c.width, c.height, 0, s.width, s.height, 0),
+        Refusal::PlaneUnfit(g) => numbers_of(5, 0, 0, 0, 0, 0, g),
+        Refusal::ShortOutput => numbers_of(6, 0, 0, 0, 0, 0, 0),
+        Refusal::ShortWorking => numbers_of(7, 0, 0, 0, 0, 0, 0),
     }
 }
 
@@ -151,7 +128,7 @@ fn check_numbers(checked: Checked) -> Build
     ensures { λ r. ⌜ r ≡ checkNumbers (checkedOutcome checked) ⌝ }
 {
     match checked {
-        Checked::Legal(size) => accepted_numbers(size.width, size.height, 0),
+        Checked::Legal(s) => numbers_of(0, s.width, s.height, 0, 0, 0, 0),
         Checked::Refused(refusal) => refusal_numbers(refusal),
     }
 }
@@ -161,7 +138,7 @@ fn build_numbers(answer: BuildAnswer) -> Build
     ensures { λ r. ⌜ r ≡ buildNumbers (buildOutcome answer) ⌝ }
 {
     match answer {
-        BuildAnswer::Done(b) => accepted_numbers(b.width, b.height, b.accepted),
+        BuildAnswer::Done(b) => numbers_of(0, b.width, b.height, b.accepted, 0, 0, 0),
         BuildAnswer::Refused(refusal) => refusal_numbers(refusal),
     }
 }

@@ -6,8 +6,8 @@ use Rattle.model.proofs.denoiser_calls.build_numbers.Tie as tie
 enum-known-answer : tie.Need-enum-known-answer
 enum-known-answer c = search needs
 
-accepted-numbers-requires : tie.Need-accepted-numbers-requires
-accepted-numbers-requires c κs = search needs
+numbers-of-requires : tie.Need-numbers-of-requires
+numbers-of-requires c κs = search needs
 
 enum-known-answer-2 : tie.Need-enum-known-answer-2
 enum-known-answer-2 c = search needs
@@ -16,7 +16,7 @@ refusal-numbers-requires : tie.Need-refusal-numbers-requires
 refusal-numbers-requires c κs = search needs
 
 returns : tie.Need-returns
-returns c = simp (c .accepted-numbers .ensures, c .before .before .answer .given .1)
+returns c = simp (c .numbers-of .ensures, c .before .before .answer .given .1)
 
 returns-2 : tie.Need-returns-2
 returns-2 c = search needs
@@ -26,7 +26,7 @@ build-numbers-spec =
     tie.close
     (tie.spec
     enum-known-answer
-    accepted-numbers-requires
+    numbers-of-requires
     enum-known-answer-2
     refusal-numbers-requires
     returns

@@ -11,8 +11,8 @@ use Rattle.model.proofs.denoiser_calls.check_numbers.Tie as tie
 enum-known-checked : tie.Need-enum-known-checked
 enum-known-checked c = search needs
 
-accepted-numbers-requires : tie.Need-accepted-numbers-requires
-accepted-numbers-requires c κs = search needs
+numbers-of-requires : tie.Need-numbers-of-requires
+numbers-of-requires c κs = search needs
 
 enum-known-checked-2 : tie.Need-enum-known-checked-2
 enum-known-checked-2 c = search needs
@@ -21,7 +21,7 @@ refusal-numbers-requires : tie.Need-refusal-numbers-requires
 refusal-numbers-requires c κs = search needs
 
 returns : tie.Need-returns
-returns c = simp (c .accepted-numbers .ensures, c .before .before .checked .given .1)
+returns c = simp (c .numbers-of .ensures, c .before .before .checked .given .1)
 
 returns-2 : tie.Need-returns-2
 returns-2 c =
@@ -33,7 +33,7 @@ check-numbers-spec =
     tie.close
     (tie.spec
     enum-known-checked
-    accepted-numbers-requires
+    numbers-of-requires
     enum-known-checked-2
     refusal-numbers-requires
     returns
