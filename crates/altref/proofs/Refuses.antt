@@ -12,12 +12,12 @@ use Rattle.window.specs.declared.Refusal.{Refusal}
 use Rattle.window.specs.declared.Refusal.the-variants.{NoCentre, TooManyFrames}
 use Rattle.window.specs.Frames.{numbersPerFrame, frameCount}
 use Rattle.window.specs.Refusals.{refusalOutcome}
-use Rattle.arnr.specs.declared.Built.{Built}
-use Rattle.arnr.specs.declared.BuildAnswer.{BuildAnswer}
-use Rattle.arnr.specs.declared.BuildAnswer.the-variants.{Refused}
-use Rattle.arnr.specs.Window.{arnrRule}
-use Rattle.arnr.specs.Demand.{Held}
-use Rattle.arnr.specs.Build.{asked, BuildInput, BuildIs, outcomeOf, outputAfter, workingAfter, buildOutcome}
+use Rattle.denoiser.specs.declared.Built.{Built}
+use Rattle.denoiser.specs.declared.BuildAnswer.{BuildAnswer}
+use Rattle.denoiser.specs.declared.BuildAnswer.the-variants.{Refused}
+use Rattle.denoiser.specs.Window.{arnrRule}
+use Rattle.denoiser.specs.Demand.{Held}
+use Rattle.denoiser.specs.Build.{asked, BuildInput, BuildIs, outcomeOf, outputAfter, workingAfter, buildOutcome}
 use Rattle.altref.specs.Records.{maxFrames}
 
 never : {A : Type 0} (n : ℕ) (v : List ℕ) (x : A) → refused n v ≡ accepted x → ⊥

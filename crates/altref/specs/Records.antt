@@ -7,9 +7,9 @@ use lib.Dec.{leb}
 use lib.ListN.{length, set, getD, replicate, take}
 use Rattle.window.specs.declared.Frame.{Frame}
 use Rattle.window.specs.Frames.{numbersPerFrame}
-use Rattle.arnr.specs.declared.BuildAnswer.{BuildAnswer}
-use Rattle.arnr.specs.Demand.{Held}
-use Rattle.arnr.specs.Build.{asked, BuildInput, BuildIs}
+use Rattle.denoiser.specs.declared.BuildAnswer.{BuildAnswer}
+use Rattle.denoiser.specs.Demand.{Held}
+use Rattle.denoiser.specs.Build.{asked, BuildInput, BuildIs}
 
 -- the most frames that are not refused, and the size of the array that holds the numbers of so many
 abbrev pub maxFrames : ℕ

@@ -1,5 +1,5 @@
 // The builder over a lent slice of frame records: their numbers are taken into an array, and handed to the builder over numbers.
-use arnr::BuildAnswer;
+use denoiser::BuildAnswer;
 use weights::ArnrConfig;
 use window::Frame;
 use window::NUMBERS_PER_FRAME;
@@ -7,8 +7,8 @@ use window::Refusal;
 ghost use mathlib.Core.Path.{_≡_};
 ghost use Prim.Native.Nat.{ℕ, _<_, _≤_};
 ghost use lib.ListN.{length, replicate};
-ghost use Rattle.arnr.specs.Demand.{Held};
-ghost use Rattle.arnr.specs.Build.{asked, BuildInput, BuildIs};
+ghost use Rattle.denoiser.specs.Demand.{Held};
+ghost use Rattle.denoiser.specs.Build.{asked, BuildInput, BuildIs};
 ghost use Rattle.altref.specs.Records.{maxFrames, arraySize, flat, putFrame, filled, takenOf, OverArray};
 
 // The most frames that are not refused, and the numbers of so many.

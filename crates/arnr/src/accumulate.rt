@@ -1,10 +1,10 @@
 // What the other frames add to the sums and the total weights, in three planes that lie one after the other in the working slices.
-use crate::Block;
-use crate::Motion;
-use crate::PlaneNumbers;
-use crate::Shift;
 use crate::sad;
 use crate::search;
+use denoiser::Block;
+use denoiser::Motion;
+use denoiser::PlaneNumbers;
+use denoiser::Shift;
 use prediction::inverse_transform;
 use window::Frame;
 ghost use mathlib.Core.Path.{_≡_};
@@ -15,11 +15,11 @@ ghost use Rattle.laws.specs.Sums.{sumBelow, sumOver};
 ghost use Rattle.prediction.specs.Samples.{distance};
 ghost use Rattle.prediction.specs.Plane.{sampleAt};
 ghost use Rattle.window.specs.Layout.{sideOf, offsetOf, packedSize};
-ghost use Rattle.arnr.specs.Grid.{gridBlock, gridSide, blockIn, unitOf};
-ghost use Rattle.arnr.specs.Search.{displacedBy, shiftIn};
-ghost use Rattle.arnr.specs.Window.{gate, costOf, shiftOf, sadAccepted, blockAccepted, acceptedIn};
-ghost use Rattle.arnr.specs.Pictures.{pictureOf, othersOf};
-ghost use Rattle.arnr.specs.Internal.{Fits, Whole, Short, Span, Lies, Lent, Room, Slack, Light, Frames, Measured, Raised, Placed, Spread, within, between, rowShare, rowTerm, shareBy, termBy, planeIn, packedPlane, numbersOf, packedPicture, packedScene, curveRule, curveShare, curveTerm};
+ghost use Rattle.denoiser.specs.Grid.{gridBlock, gridSide, blockIn, unitOf};
+ghost use Rattle.denoiser.specs.Search.{displacedBy, shiftIn};
+ghost use Rattle.denoiser.specs.Window.{gate, costOf, shiftOf, sadAccepted, blockAccepted, acceptedIn};
+ghost use Rattle.denoiser.specs.Pictures.{pictureOf, othersOf};
+ghost use Rattle.denoiser.specs.Internal.{Fits, Whole, Short, Span, Lies, Lent, Room, Slack, Light, Frames, Measured, Raised, Placed, Spread, within, between, rowShare, rowTerm, shareBy, termBy, planeIn, packedPlane, numbersOf, packedPicture, packedScene, curveRule, curveShare, curveTerm};
 
 // The weight of a displaced sample against the centre's.
 fn share(curve: &[u32; 256], d: u8, c: u8) -> u32
@@ -225,7 +225,7 @@ fn block_in(k: usize, b: Block) -> Block
 // A displacement in a plane: in U and V it is halved toward zero.
 fn shift_in(k: usize, d: Shift) -> Shift
     requires { ⌜ Short d ⌝ }
-    ensures { λ r. ⌜ r ≡ shiftIn k d ⌝ }
+    ensures { λ r. ⌜ (r ≡ shiftIn k d) × Short r ⌝ }
 {
     if k == 0 {
         return d;

@@ -1,6 +1,6 @@
 // The builder: the centre is cropped into the output; the other frames are blended in the working slices; the output is resolved from these.
-use crate::PlaneNumbers;
 use crate::accumulate;
+use denoiser::PlaneNumbers;
 use window::Frame;
 ghost use mathlib.Core.Path.{_≡_};
 ghost use Prim.Native.Nat.{ℕ, _+_, _-_, _*_, _/_, _<_, _≤_};
@@ -10,11 +10,11 @@ ghost use Rattle.prediction.specs.Plane.{sampleAt};
 ghost use Rattle.weights.specs.Blend.{denoised};
 ghost use Rattle.window.specs.Layout.{sideOf, offsetOf, packedSize};
 ghost use Rattle.window.specs.Frames.{frameAt, frameCount};
-ghost use Rattle.arnr.specs.Pictures.{pictureOf, othersOf};
-ghost use Rattle.arnr.specs.Demand.{Held};
-ghost use Rattle.arnr.specs.Window.{centreAt};
-ghost use Rattle.arnr.specs.Build.{asked, sceneOf};
-ghost use Rattle.arnr.specs.Internal.{Fits, Whole, Frames, Lent, Exact, Front, Stored, Shows, Ready, Legal, Blended, Made, planeIn};
+ghost use Rattle.denoiser.specs.Pictures.{pictureOf, othersOf};
+ghost use Rattle.denoiser.specs.Demand.{Held};
+ghost use Rattle.denoiser.specs.Window.{centreAt};
+ghost use Rattle.denoiser.specs.Build.{asked, sceneOf};
+ghost use Rattle.denoiser.specs.Internal.{Fits, Whole, Frames, Lent, Exact, Front, Stored, Shows, Ready, Legal, Blended, Made, planeIn};
 
 // A row is copied.
 fn copy_row(from: &[u8], to: &mut [u8])

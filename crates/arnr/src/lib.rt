@@ -4,54 +4,14 @@ mod build;
 mod sad;
 mod search;
 
+use denoiser::BuildAnswer;
+use denoiser::Built;
 use weights::ArnrConfig;
 use window::Checked;
-use window::Refusal;
 ghost use mathlib.Core.Path.{_≡_};
 ghost use lib.ListN.{length};
-ghost use Rattle.arnr.specs.Demand.{Held};
-ghost use Rattle.arnr.specs.Build.{BuildInput, BuildIs, asked};
-
-// A rectangle of a plane.
-pub struct Block {
-    pub x: usize,
-    pub y: usize,
-    pub columns: usize,
-    pub rows: usize,
-}
-
-// A displacement in whole samples: columns to the right, rows down.
-pub struct Shift {
-    pub dx: i32,
-    pub dy: i32,
-}
-
-// A plane in the picture bytes: where it starts, the bytes from row to row, and its size.
-pub struct PlaneNumbers {
-    pub start: usize,
-    pub stride: usize,
-    pub columns: usize,
-    pub rows: usize,
-}
-
-// A displacement and its SAD.
-pub struct Motion {
-    pub shift: Shift,
-    pub sad: u32,
-}
-
-// The picture's size, and the number of accepted blocks over all other frames.
-pub struct Built {
-    pub width: u32,
-    pub height: u32,
-    pub accepted: u32,
-}
-
-// A builder's answer.
-pub enum BuildAnswer {
-    Done(Built),
-    Refused(Refusal),
-}
+ghost use Rattle.denoiser.specs.Demand.{Held};
+ghost use Rattle.denoiser.specs.Build.{BuildInput, BuildIs, asked};
 
 // The builder over the numbers of the frames: seven for each, numbers left over are not read.
 pub fn build_from_numbers(

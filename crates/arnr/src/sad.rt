@@ -1,7 +1,7 @@
 // Displaced samples, and the sum of absolute differences (SAD) of a block.
-use crate::Block;
-use crate::PlaneNumbers;
-use crate::Shift;
+use denoiser::Block;
+use denoiser::PlaneNumbers;
+use denoiser::Shift;
 use prediction::inverse_transform;
 ghost use mathlib.Core.Path.{_≡_};
 ghost use Prim.Native.Nat.{ℕ, _+_, _-_, _*_, _<_, _≤_};
@@ -11,8 +11,8 @@ ghost use Rattle.laws.specs.Signed.{above, below};
 ghost use Rattle.laws.specs.Sums.{sumBelow};
 ghost use Rattle.prediction.specs.Samples.{distance};
 ghost use Rattle.prediction.specs.Plane.{sampleAt, nearestIn};
-ghost use Rattle.arnr.specs.Search.{displacedBy};
-ghost use Rattle.arnr.specs.Internal.{Fits, Short, Span, Lies, planeIn, packedPlane, rowDistance, lumaCost};
+ghost use Rattle.denoiser.specs.Search.{displacedBy};
+ghost use Rattle.denoiser.specs.Internal.{Fits, Short, Span, Lies, planeIn, packedPlane, rowDistance, lumaCost};
 
 // The coordinate nearest to x + d among 0 .. n - 1.
 fn edge(x: usize, d: i32, n: usize) -> usize

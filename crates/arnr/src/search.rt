@@ -1,16 +1,16 @@
 // The block search: 33 comparisons, no displacement beyond 15.
-use crate::Block;
-use crate::Motion;
-use crate::PlaneNumbers;
-use crate::Shift;
 use crate::sad;
+use denoiser::Block;
+use denoiser::Motion;
+use denoiser::PlaneNumbers;
+use denoiser::Shift;
 ghost use mathlib.Core.Path.{_≡_};
 ghost use Prim.Native.Nat.{ℕ, _+_, _-_, _*_, _<_, _≤_};
 ghost use lib.ListN.{length};
 ghost use Rattle.laws.specs.Signed.{above, below};
 ghost use Rattle.laws.specs.Best.{betterOf};
-ghost use Rattle.arnr.specs.Search.{stepTo, neighbourOf, stepBest, blockSearch};
-ghost use Rattle.arnr.specs.Internal.{Fits, Reach, Short, Lies, Measured, lumaCost};
+ghost use Rattle.denoiser.specs.Search.{stepTo, neighbourOf, stepBest, blockSearch};
+ghost use Rattle.denoiser.specs.Internal.{Fits, Reach, Short, Lies, Measured, lumaCost};
 
 // The better of the best so far and the displacement d: only a strictly smaller SAD replaces the best.
 fn try_at(bytes: &[u8], p: PlaneNumbers, b: Block, centre: &[u8], best: Motion, d: Shift) -> Motion

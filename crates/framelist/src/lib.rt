@@ -1,13 +1,13 @@
 // Frame records in an array: the first of them are lent to the builder over records.
-use arnr::BuildAnswer;
+use denoiser::BuildAnswer;
 use weights::ArnrConfig;
 use window::Frame;
 ghost use mathlib.Core.Path.{_≡_};
 ghost use Prim.Native.Nat.{ℕ, _≤_, min};
 ghost use lib.ListN.{take};
 ghost use Rattle.window.specs.Frames.{frameCount};
-ghost use Rattle.arnr.specs.Demand.{Held};
-ghost use Rattle.arnr.specs.Build.{asked, BuildInput, BuildIs};
+ghost use Rattle.denoiser.specs.Demand.{Held};
+ghost use Rattle.denoiser.specs.Build.{asked, BuildInput, BuildIs};
 ghost use Rattle.altref.specs.Records.{flat};
 ghost use Rattle.framelist.specs.Lists.{arrayRecords, Listed};
 

@@ -8,7 +8,7 @@ use crate::parts::old_words;
 use crate::parts::part;
 use crate::parts::small;
 use crate::parts::words_agree;
-use arnr::BuildAnswer;
+use denoiser::BuildAnswer;
 use weights::ArnrConfig;
 use window::Refusal;
 

@@ -14,9 +14,9 @@ use Rattle.weights.specs.Weights.{scale, weightOf}
 use Rattle.weights.specs.Blend.{totalWeight, weightedSum, denoised, distanceBound}
 use Rattle.window.specs.Layout.{sideOf}
 use Rattle.motion_search.specs.Search.{onGrid}
-use Rattle.arnr.specs.Grid.{gridBlock, blockIn}
-use Rattle.arnr.specs.Search.{halved}
-use Rattle.arnr.specs.Window.{sadAccepted}
+use Rattle.denoiser.specs.Grid.{gridBlock, blockIn}
+use Rattle.denoiser.specs.Search.{halved}
+use Rattle.denoiser.specs.Window.{sadAccepted}
 
 -- the number n, and the number -n
 p : ℕ → ℤ

@@ -51,17 +51,17 @@ use denote.Triple.Table.{entered, cited}
 use denote.Triple.Walked.{says, Stays, stay-none, stay-none-slice, gave-slice, walkOf, goes-none, goes-none-slice, goes-gave-slice, Walks, ends-at, walked, walk-meets}
 use denote.Exit.{yes}
 use Rattle.window.specs.declared.Frame.{Frame}
-use Rattle.arnr.specs.declared.BuildAnswer.{BuildAnswer}
-use Rattle.arnr.specs.Demand.{Held}
-use Rattle.arnr.specs.Build.{asked, BuildInput, BuildIs}
+use Rattle.denoiser.specs.declared.BuildAnswer.{BuildAnswer}
+use Rattle.denoiser.specs.Demand.{Held}
+use Rattle.denoiser.specs.Build.{asked, BuildInput, BuildIs}
 use Rattle.altref.specs.Records.{arraySize, flat, filled, takenOf, OverArray}
 use Rattle.altref.proofs.Laws.{begins, taken-few, taken-there}
 use Rattle.window.proofs.Frame as T
 use Rattle.weights.specs.declared.ArnrConfig.{ArnrConfig}
 use Rattle.weights.proofs.ArnrConfig as Cf
 use Rattle.weights.proofs.ArnrConfig.Laws as Cf′
-use Rattle.arnr.proofs.BuildAnswer as S
-use Rattle.arnr.proofs.BuildAnswer.Laws as S′
+use Rattle.denoiser.proofs.BuildAnswer as S
+use Rattle.denoiser.proofs.BuildAnswer.Laws as S′
 use Rattle.altref.proofs.taken as taken
 use Rattle.altref.proofs.taken.Symbol as taken-def
 use Rattle.altref.proofs.taken.Symbol.{name as #altref·taken}

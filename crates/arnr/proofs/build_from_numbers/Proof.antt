@@ -2,8 +2,8 @@
 use mathlib.Core.Path.{_≡_, refl, sym, ap, _∙_}
 use Prim.Native.Nat.{ℕ, _<_}
 use lib.ListN.{getD}
-use Rattle.arnr.specs.Build.{BuildInput, asked}
-use Rattle.arnr.proofs.Answers.{refused-is, legal, lent, done-is}
+use Rattle.denoiser.specs.Build.{BuildInput, asked}
+use Rattle.denoiser.proofs.Answers.{refused-is, legal, lent, done-is}
 use native.Mathlib.Omega.{arith}
 use borrow.Author.Needs.{needs}
 use Rattle.arnr.proofs.build_from_numbers.Statement.{statement}

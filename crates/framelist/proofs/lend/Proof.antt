@@ -63,9 +63,9 @@ use borrow.Table.Elements.{at as place-after, cut-app, join-app}
 use borrow.Rule.Slice.Shared.{Sh, parts-cells}
 use borrow.Rule.Array.Share.{room-take}
 use Rattle.window.specs.declared.Frame.{Frame}
-use Rattle.arnr.specs.declared.BuildAnswer.{BuildAnswer}
-use Rattle.arnr.specs.Demand.{Held}
-use Rattle.arnr.specs.Build.{asked, BuildInput, BuildIs}
+use Rattle.denoiser.specs.declared.BuildAnswer.{BuildAnswer}
+use Rattle.denoiser.specs.Demand.{Held}
+use Rattle.denoiser.specs.Build.{asked, BuildInput, BuildIs}
 use Rattle.altref.specs.Records.{flat}
 use Rattle.framelist.specs.Lists.{arrayRecords}
 use Rattle.window.proofs.Frame as T
@@ -73,8 +73,8 @@ use Rattle.window.proofs.Frame.Laws as T′
 use Rattle.weights.specs.declared.ArnrConfig.{ArnrConfig}
 use Rattle.weights.proofs.ArnrConfig as Cf
 use Rattle.weights.proofs.ArnrConfig.Laws as Cf′
-use Rattle.arnr.proofs.BuildAnswer as S
-use Rattle.arnr.proofs.BuildAnswer.Laws as S′
+use Rattle.denoiser.proofs.BuildAnswer as S
+use Rattle.denoiser.proofs.BuildAnswer.Laws as S′
 use Rattle.altref.proofs.build_arnr_altref as build
 use Rattle.altref.proofs.build_arnr_altref.Symbol as build-def
 use Rattle.altref.proofs.build_arnr_altref.Symbol.{name as #altref·build-arnr-altref}

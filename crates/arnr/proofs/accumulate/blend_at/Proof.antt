@@ -3,17 +3,17 @@ use mathlib.Core.Path.{_≡_, sym, ap, _∙_}
 use mathlib.Core.Bool.{Bool, true, false}
 use Prim.Native.Nat.{ℕ, _+_, _*_, _/_, _≤_, _<_}
 use lib.Dec.{eqb}
-use Rattle.arnr.specs.declared.Block.{Block}
-use Rattle.arnr.specs.Grid.{gridBlock, unitOf}
-use Rattle.arnr.specs.Search.{displacedBy, shiftIn}
-use Rattle.arnr.specs.Window.{gate, costOf, shiftOf, sadAccepted, blockAccepted}
-use Rattle.arnr.specs.Pictures.{pictureOf}
-use Rattle.arnr.specs.Internal.{Short, packedPicture, packedScene, shareBy, termBy}
-use Rattle.arnr.proofs.Cover.{grid-lies, covered, uncovered}
-use Rattle.arnr.proofs.Gates.{gate-on, gate-off}
-use Rattle.arnr.proofs.Pictures.{share-at, term-at}
-use Rattle.arnr.proofs.Searches.{search-reach}
-use Rattle.arnr.proofs.Spreads.{spread-same, spread-none}
+use Rattle.denoiser.specs.declared.Block.{Block}
+use Rattle.denoiser.specs.Grid.{gridBlock, unitOf}
+use Rattle.denoiser.specs.Search.{displacedBy, shiftIn}
+use Rattle.denoiser.specs.Window.{gate, costOf, shiftOf, sadAccepted, blockAccepted}
+use Rattle.denoiser.specs.Pictures.{pictureOf}
+use Rattle.denoiser.specs.Internal.{Short, packedPicture, packedScene, shareBy, termBy}
+use Rattle.denoiser.proofs.Cover.{grid-lies, covered, uncovered}
+use Rattle.denoiser.proofs.Gates.{gate-on, gate-off}
+use Rattle.denoiser.proofs.Pictures.{share-at, term-at}
+use Rattle.denoiser.proofs.Searches.{search-reach}
+use Rattle.denoiser.proofs.Spreads.{spread-same, spread-none}
 use native.Mathlib.Omega.{arith}
 use borrow.Author.Needs.{needs}
 use Rattle.arnr.proofs.accumulate.blend_at.Statement.{statement}

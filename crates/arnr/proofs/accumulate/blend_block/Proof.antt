@@ -4,12 +4,12 @@ use Prim.Native.Nat.{ℕ, _+_, _*_, _-_, _≤_, _<_}
 use lib.IntN.{pos}
 use lib.ListN.{length, getD}
 use Rattle.prediction.specs.Plane.{sampleAt}
-use Rattle.arnr.specs.Window.{gate}
-use Rattle.arnr.specs.Search.{displacedBy}
-use Rattle.arnr.specs.Internal.{Lent, Slack, Placed, between, within, shareBy, termBy, planeIn, packedPlane}
-use Rattle.arnr.proofs.Gates.{gate-both, gate-most, between-none, between-step}
-use Rattle.arnr.proofs.Place.{placed-none, placed-then, placed-same, placed-room, term-most, share-most}
-use Rattle.arnr.proofs.Planes.{sample-byte}
+use Rattle.denoiser.specs.Window.{gate}
+use Rattle.denoiser.specs.Search.{displacedBy}
+use Rattle.denoiser.specs.Internal.{Lent, Slack, Placed, between, within, shareBy, termBy, planeIn, packedPlane}
+use Rattle.denoiser.proofs.Gates.{gate-both, gate-most, between-none, between-step}
+use Rattle.denoiser.proofs.Place.{placed-none, placed-then, placed-same, placed-room, term-most, share-most}
+use Rattle.denoiser.proofs.Planes.{sample-byte}
 use native.Mathlib.Omega.{arith}
 use borrow.Author.Needs.{needs}
 use Rattle.arnr.proofs.accumulate.blend_block.Statement.{statement}

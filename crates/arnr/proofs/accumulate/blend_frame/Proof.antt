@@ -6,14 +6,14 @@ use lib.IntN.{ℤ}
 use lib.ListN.{getD}
 use Rattle.laws.specs.Sums.{sumBelow, sum-none, sum-more}
 use Rattle.window.specs.Layout.{packedSize}
-use Rattle.arnr.specs.Grid.{gridSide, unitOf}
-use Rattle.arnr.specs.Window.{gate, blockAccepted, acceptedIn}
-use Rattle.arnr.specs.Pictures.{pictureOf}
-use Rattle.arnr.specs.Internal.{Lent, Slack, Spread, packedScene, curveRule, curveShare, curveTerm}
-use Rattle.arnr.proofs.Cover.{within-grid}
-use Rattle.arnr.proofs.Gates.{gate-most, gate-step, gate-less, gate-none, row-none, across}
-use Rattle.arnr.proofs.Pictures.{picture-byte, share-light, term-light}
-use Rattle.arnr.proofs.Spreads.{spread-none, spread-then, spread-same, spread-slack, spread-lent}
+use Rattle.denoiser.specs.Grid.{gridSide, unitOf}
+use Rattle.denoiser.specs.Window.{gate, blockAccepted, acceptedIn}
+use Rattle.denoiser.specs.Pictures.{pictureOf}
+use Rattle.denoiser.specs.Internal.{Lent, Slack, Spread, packedScene, curveRule, curveShare, curveTerm}
+use Rattle.denoiser.proofs.Cover.{within-grid}
+use Rattle.denoiser.proofs.Gates.{gate-most, gate-step, gate-less, gate-none, row-none, across}
+use Rattle.denoiser.proofs.Pictures.{picture-byte, share-light, term-light}
+use Rattle.denoiser.proofs.Spreads.{spread-none, spread-then, spread-same, spread-slack, spread-lent}
 use native.Mathlib.Omega.{arith}
 use borrow.Author.Needs.{needs}
 use Rattle.arnr.proofs.accumulate.blend_frame.Statement.{statement}

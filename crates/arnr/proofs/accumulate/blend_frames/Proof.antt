@@ -8,12 +8,12 @@ use lib.ListN.{getD}
 use Rattle.laws.specs.Sums.{sumOver}
 use Rattle.window.specs.Layout.{packedSize}
 use Rattle.window.specs.Frames.{frameAt}
-use Rattle.arnr.specs.Window.{Picture, acceptedIn}
-use Rattle.arnr.specs.Pictures.{pictureOf, othersOf}
-use Rattle.arnr.specs.Internal.{Lent, Slack, Spread, packedScene, curveRule, curveShare, curveTerm}
-use Rattle.arnr.proofs.Others.{others-none, others-more, others-centre, others-most}
-use Rattle.arnr.proofs.Pictures.{picture-byte, share-light, term-light}
-use Rattle.arnr.proofs.Spreads.{spread-none, spread-then, spread-same, spread-slack, spread-lent}
+use Rattle.denoiser.specs.Window.{Picture, acceptedIn}
+use Rattle.denoiser.specs.Pictures.{pictureOf, othersOf}
+use Rattle.denoiser.specs.Internal.{Lent, Slack, Spread, packedScene, curveRule, curveShare, curveTerm}
+use Rattle.denoiser.proofs.Others.{others-none, others-more, others-centre, others-most}
+use Rattle.denoiser.proofs.Pictures.{picture-byte, share-light, term-light}
+use Rattle.denoiser.proofs.Spreads.{spread-none, spread-then, spread-same, spread-slack, spread-lent}
 use native.Mathlib.Omega.{arith}
 use borrow.Author.Needs.{needs}
 use Rattle.arnr.proofs.accumulate.blend_frames.Statement.{statement}

@@ -1,9 +1,9 @@
 use mathlib.Core.Path.{_≡_}
 use Prim.Native.Nat.{ℕ, _+_, _*_, _≤_, _<_}
 use native.Mathlib.Nat.{le-trans}
-use Rattle.arnr.specs.Pictures.{pictureOf}
-use Rattle.arnr.specs.Internal.{Lent, packedPicture}
-use Rattle.arnr.proofs.Planes.{block-fits, short-in, plane-end}
+use Rattle.denoiser.specs.Pictures.{pictureOf}
+use Rattle.denoiser.specs.Internal.{Lent, packedPicture}
+use Rattle.denoiser.proofs.Planes.{block-fits, plane-end}
 use native.Mathlib.Omega.{arith}
 use borrow.Author.Needs.{needs}
 use Rattle.arnr.proofs.accumulate.blend_in.Statement.{statement}
@@ -37,12 +37,12 @@ blend-block-requires c κs =
     let f = s .args .f in
     let end = plane-end k (f .width) (f .height) (s .pre .0 .0) in
     let ends = s .pre .1 .1 .1 .0 in
-    simp (c .before .before .before .before .before .before .before .plane-of .ensures, c .before .before .before .before .offset-of .ensures, c .before .before .before .block-in .ensures, c .before .before .shift-in .ensures) (
+    simp (c .before .before .before .before .before .before .before .plane-of .ensures, c .before .before .before .before .offset-of .ensures, c .before .before .before .block-in .ensures) (
       s .pre .0 .1 .fits k (s .pre .0 .0),
       (
         block-fits k (s .args .b) (f .width) (f .height) (s .pre .1 .0),
         (
-          short-in k (s .args .d) (s .pre .1 .1 .0),
+          c .before .before .shift-in .ensures .1,
           (
             record { in-out = le-trans end (ends .in-out); in-sums = le-trans end (ends .in-sums); in-weights = le-trans end (ends .in-weights) },
             s .pre .1 .1 .1 .1,
@@ -59,7 +59,7 @@ same-length-2 c = search needs
 
 returns : tie.Need-returns
 unfolding packedPicture pictureOf
-returns c = simp (c .before .before .before .before .before .before .before .before .before .before .before .before .plane-of .ensures, c .before .before .before .before .before .before .before .before .before .offset-of .ensures, c .before .before .before .before .before .before .before .before .block-in .ensures, c .before .before .before .before .before .before .before .shift-in .ensures) at (c .before .before .before .before .blend-block .ensures)
+returns c = simp (c .before .before .before .before .before .before .before .before .before .before .before .before .plane-of .ensures, c .before .before .before .before .before .before .before .before .before .offset-of .ensures, c .before .before .before .before .before .before .before .before .block-in .ensures, c .before .before .before .before .before .before .before .shift-in .ensures .0) at (c .before .before .before .before .blend-block .ensures)
 
 pub blend-in-spec : {M : Type 1} → statement M
 blend-in-spec =

@@ -6,17 +6,17 @@ use lib.IntN.{pos}
 use lib.ListN.{getD}
 use Rattle.window.specs.declared.Frame.{Frame}
 use Rattle.window.specs.Layout.{sideOf, offsetOf, packedSize}
-use Rattle.arnr.specs.declared.Block.{Block}
-use Rattle.arnr.specs.declared.Shift.{Shift}
-use Rattle.arnr.specs.Grid.{blockIn}
-use Rattle.arnr.specs.Search.{displacedBy, shiftIn}
-use Rattle.arnr.specs.Window.{gate}
-use Rattle.arnr.specs.Pictures.{pictureOf}
-use Rattle.arnr.specs.Internal.{Lent, Slack, Light, Whole, Placed, within, termBy, shareBy, packedPicture}
-use Rattle.arnr.proofs.Gates.{gate-most}
-use Rattle.arnr.proofs.Place.{placed-room, term-most, share-most}
-use Rattle.arnr.proofs.Pictures.{picture-byte}
-use Rattle.arnr.proofs.Spreads.{spread-three}
+use Rattle.denoiser.specs.declared.Block.{Block}
+use Rattle.denoiser.specs.declared.Shift.{Shift}
+use Rattle.denoiser.specs.Grid.{blockIn}
+use Rattle.denoiser.specs.Search.{displacedBy, shiftIn}
+use Rattle.denoiser.specs.Window.{gate}
+use Rattle.denoiser.specs.Pictures.{pictureOf}
+use Rattle.denoiser.specs.Internal.{Lent, Slack, Light, Whole, Placed, within, termBy, shareBy, packedPicture}
+use Rattle.denoiser.proofs.Gates.{gate-most}
+use Rattle.denoiser.proofs.Place.{placed-room, term-most, share-most}
+use Rattle.denoiser.proofs.Pictures.{picture-byte}
+use Rattle.denoiser.proofs.Spreads.{spread-three}
 use native.Mathlib.Omega.{arith}
 use borrow.Author.Needs.{needs}
 use Rattle.arnr.proofs.accumulate.blend_planes.Statement.{statement}

@@ -2,8 +2,8 @@ use mathlib.Core.Path.{_≡_, ap, _∙_}
 use Prim.Native.Nat.{ℕ, _+_, _*_, _^_, _≤_, _<_, _-_}
 use native.Mathlib.Nat.{le-refl}
 use lib.ListN.{length, getD}
-use Rattle.arnr.specs.Internal.{Raised, rowShare, rowTerm}
-use Rattle.arnr.proofs.Raise.{raised-none, raised-more}
+use Rattle.denoiser.specs.Internal.{Raised, rowShare, rowTerm}
+use Rattle.denoiser.proofs.Raise.{raised-none, raised-more}
 use native.Mathlib.Omega.{arith}
 use borrow.Author.Needs.{needs}
 use Rattle.arnr.proofs.accumulate.blend_row.Statement.{statement}

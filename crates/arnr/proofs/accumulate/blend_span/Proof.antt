@@ -6,10 +6,10 @@ use lib.IntN.{pos}
 use lib.ListN.{length, getD, take, length-take}
 use Rattle.laws.specs.Slices.{mid-long, mid-all}
 use Rattle.prediction.specs.Plane.{sampleAt}
-use Rattle.arnr.specs.Search.{displacedBy}
-use Rattle.arnr.specs.Internal.{planeIn, packedPlane}
-use Rattle.arnr.proofs.Place.{placed-span, share-is, term-is}
-use Rattle.arnr.proofs.Planes.{row-below, packed-at}
+use Rattle.denoiser.specs.Search.{displacedBy}
+use Rattle.denoiser.specs.Internal.{planeIn, packedPlane}
+use Rattle.denoiser.proofs.Place.{placed-span, share-is, term-is}
+use Rattle.denoiser.proofs.Planes.{row-below, packed-at}
 use native.Mathlib.Omega.{arith}
 use borrow.Author.Needs.{needs}
 use Rattle.arnr.proofs.accumulate.blend_span.Statement.{statement}

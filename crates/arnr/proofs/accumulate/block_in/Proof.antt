@@ -1,4 +1,4 @@
-use Rattle.arnr.proofs.Planes.{not-luma}
+use Rattle.denoiser.proofs.Planes.{not-luma}
 use native.Mathlib.Omega.{arith}
 use borrow.Author.Needs.{needs}
 use Rattle.arnr.proofs.accumulate.block_in.Statement.{statement}

@@ -1,11 +1,11 @@
 -- `arnr::accumulate::motion_at` meets its contract. Assumes nothing.
 use mathlib.Core.Path.{_≡_}
 use Prim.Native.Nat.{ℕ, _+_, _*_, _≤_, _<_}
-use Rattle.arnr.specs.Search.{blockSearch}
-use Rattle.arnr.specs.Window.{costOf, shiftOf}
-use Rattle.arnr.specs.Pictures.{pictureOf}
-use Rattle.arnr.specs.Internal.{lumaCost, packedScene, packedPicture}
-use Rattle.arnr.proofs.Cover.{grid-lies}
+use Rattle.denoiser.specs.Search.{blockSearch}
+use Rattle.denoiser.specs.Window.{costOf, shiftOf}
+use Rattle.denoiser.specs.Pictures.{pictureOf}
+use Rattle.denoiser.specs.Internal.{lumaCost, packedScene, packedPicture}
+use Rattle.denoiser.proofs.Cover.{grid-lies}
 use native.Mathlib.Omega.{arith}
 use borrow.Author.Needs.{needs}
 use Rattle.arnr.proofs.accumulate.motion_at.Statement.{statement}

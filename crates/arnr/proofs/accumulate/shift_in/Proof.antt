@@ -4,8 +4,7 @@ use mir.Syntax.{w32}
 use mir.Val.{SFits}
 use mir.Facts.{toZ-ofZ}
 use Rattle.laws.specs.Signed.{range, quot}
-use Rattle.arnr.proofs.Planes.{short-fits}
-use Rattle.arnr.proofs.Planes.{not-luma}
+use Rattle.denoiser.proofs.Planes.{short-fits, short-in, not-luma}
 use native.Mathlib.Omega.{arith}
 use borrow.Author.Needs.{needs}
 use Rattle.arnr.proofs.accumulate.shift_in.Statement.{statement}
@@ -15,7 +14,7 @@ half-fits : (v : ℤ) → SFits w32 v → SFits w32 (quotZ v (pos 2))
 half-fits v f = omega (arith, range f, quot v 2)
 
 returns : tie.Need-returns
-returns c = rw (c .if1 .taken)
+returns c = (rw (c .if1 .taken), c .before .pre)
 
 div-dx : tie.Need-div-dx
 div-dx c =
@@ -32,8 +31,10 @@ div-dy c =
 returns-2 : tie.Need-returns-2
 returns-2 c =
     let s = c .before .before .before .before .before in
-    let f = short-fits (s .args .d) (s .pre) in
-    rw (not-luma _ (c .before .before .before .before .if1 .left)) (simp (toZ-ofZ (f .0), toZ-ofZ (f .1), toZ-ofZ (half-fits _ (f .0)), toZ-ofZ (half-fits _ (f .1))))
+    let f = short-fits (s .args .d) (s .pre) in (
+      rw (not-luma _ (c .before .before .before .before .if1 .left)) (simp (toZ-ofZ (f .0), toZ-ofZ (f .1), toZ-ofZ (half-fits _ (f .0)), toZ-ofZ (half-fits _ (f .1)))),
+      simp (toZ-ofZ (f .0), toZ-ofZ (f .1), toZ-ofZ (half-fits _ (f .0)), toZ-ofZ (half-fits _ (f .1))) (short-in 1 (s .args .d) (s .pre)),
+    )
 
 pub shift-in-spec : {M : Type 1} → statement M
 shift-in-spec = tie.close (tie.spec returns div-dx div-dy returns-2)

@@ -7,12 +7,12 @@ use Rattle.laws.specs.Tabulate.{tabulate}
 use Rattle.weights.specs.Weights.{weightRead}
 use Rattle.window.specs.Layout.{packedSize}
 use Rattle.window.specs.Frames.{frameCount}
-use Rattle.arnr.specs.Window.{centreAt, sumAt, totalAt, denoisedAt, arnrRule}
-use Rattle.arnr.specs.Build.{Request, asked, sceneOf, windowOf}
-use Rattle.arnr.specs.Internal.{Lent, Slack, Front, Shows, Legal}
-use Rattle.arnr.proofs.Blends.{front-room, sums-show, weights-show, ready, output-shows, count-is}
-use Rattle.arnr.proofs.Join.{curve-light}
-use Rattle.arnr.proofs.Packs.{shows-is}
+use Rattle.denoiser.specs.Window.{centreAt, sumAt, totalAt, denoisedAt, arnrRule}
+use Rattle.denoiser.specs.Build.{Request, asked, sceneOf, windowOf}
+use Rattle.denoiser.specs.Internal.{Lent, Slack, Front, Shows, Legal}
+use Rattle.denoiser.proofs.Blends.{front-room, sums-show, weights-show, ready, output-shows, count-is}
+use Rattle.denoiser.proofs.Join.{curve-light}
+use Rattle.denoiser.proofs.Packs.{shows-is}
 use native.Mathlib.Omega.{arith}
 use borrow.Author.Needs.{needs}
 use Rattle.arnr.proofs.build.blend.Statement.{statement}

@@ -5,7 +5,7 @@ use native.Mathlib.Nat.{not-suc-le-zero}
 use native.Mathlib.Omega.{arith}
 use lib.ListN.{length, getD, length-set}
 use lib.Seq.{ext-getD}
-use Rattle.arnr.proofs.Raise.{filled-more}
+use Rattle.denoiser.proofs.Raise.{filled-more}
 use borrow.Author.Needs.{needs}
 use Rattle.arnr.proofs.build.copy_row.Statement.{statement}
 use Rattle.arnr.proofs.build.copy_row.Tie as tie

@@ -1,7 +1,7 @@
 -- `arnr::build::crop` meets its contract. Assumes nothing.
 use mathlib.Core.Path.{_≡_, _∙_}
 use Prim.Native.Nat.{ℕ, _+_, _*_, _≤_, _<_}
-use Rattle.arnr.proofs.Fronts.{shows-three}
+use Rattle.denoiser.proofs.Fronts.{shows-three}
 use native.Mathlib.Omega.{arith}
 use borrow.Author.Needs.{needs}
 use Rattle.arnr.proofs.build.crop.Statement.{statement}

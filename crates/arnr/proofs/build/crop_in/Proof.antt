@@ -2,8 +2,8 @@
 use mathlib.Core.Path.{_≡_}
 use Prim.Native.Nat.{ℕ, _+_, _*_, _≤_, _<_}
 use native.Mathlib.Nat.{le-trans}
-use Rattle.arnr.specs.Pictures.{pictureOf}
-use Rattle.arnr.proofs.Planes.{plane-end}
+use Rattle.denoiser.specs.Pictures.{pictureOf}
+use Rattle.denoiser.proofs.Planes.{plane-end}
 use native.Mathlib.Omega.{arith}
 use borrow.Author.Needs.{needs}
 use Rattle.arnr.proofs.build.crop_in.Statement.{statement}

@@ -6,9 +6,9 @@ use lib.IntN.{pos}
 use lib.ListN.{length, getD}
 use Rattle.laws.specs.Slices.{mid-at, mid-long}
 use Rattle.prediction.specs.Plane.{sampleAt}
-use Rattle.arnr.specs.Internal.{Stored, planeIn}
-use Rattle.arnr.proofs.Fronts.{stored-none, stored-more}
-use Rattle.arnr.proofs.Planes.{sample-below, plane-at, row-below}
+use Rattle.denoiser.specs.Internal.{Stored, planeIn}
+use Rattle.denoiser.proofs.Fronts.{stored-none, stored-more}
+use Rattle.denoiser.proofs.Planes.{sample-below, plane-at, row-below}
 use native.Mathlib.Omega.{arith}
 use borrow.Author.Needs.{needs}
 use Rattle.arnr.proofs.build.crop_plane.Statement.{statement}

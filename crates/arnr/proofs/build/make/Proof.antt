@@ -7,11 +7,11 @@ use lib.ListN.{length, getD, take, drop}
 use lib.Seq.{length-take-le, take-at}
 use Rattle.window.specs.Layout.{packedSize}
 use Rattle.window.specs.Frames.{frameAt}
-use Rattle.arnr.specs.Window.{centreAt}
-use Rattle.arnr.specs.Demand.{Held}
-use Rattle.arnr.specs.Build.{Request, asked, sceneOf}
-use Rattle.arnr.specs.Internal.{Shows}
-use Rattle.arnr.proofs.Makes.{crops-one, crops-none, crops-not, centre-shows, made-cropped, made-blended}
+use Rattle.denoiser.specs.Window.{centreAt}
+use Rattle.denoiser.specs.Demand.{Held}
+use Rattle.denoiser.specs.Build.{Request, asked, sceneOf}
+use Rattle.denoiser.specs.Internal.{Shows}
+use Rattle.denoiser.proofs.Makes.{crops-one, crops-none, crops-not, centre-shows, made-cropped, made-blended}
 use native.Mathlib.Omega.{arith}
 use borrow.Author.Needs.{needs}
 use Rattle.arnr.proofs.build.make.Statement.{statement}

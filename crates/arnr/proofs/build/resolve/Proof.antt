@@ -4,8 +4,8 @@ use Prim.Native.Nat.{ℕ, _+_, _-_, _*_, _/_, _≤_, _<_}
 use native.Mathlib.Omega.{arith}
 use lib.ListN.{length, getD}
 use Rattle.weights.specs.Blend.{denoised}
-use Rattle.arnr.specs.Internal.{Front}
-use Rattle.arnr.proofs.Fronts.{front-none, front-more}
+use Rattle.denoiser.specs.Internal.{Front}
+use Rattle.denoiser.proofs.Fronts.{front-none, front-more}
 use borrow.Author.Needs.{needs}
 use Rattle.arnr.proofs.build.resolve.Statement.{statement}
 use Rattle.arnr.proofs.build.resolve.Tie as tie

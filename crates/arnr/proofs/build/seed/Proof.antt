@@ -3,8 +3,8 @@ use mathlib.Core.Path.{_≡_, refl}
 use Prim.Native.Nat.{ℕ, _+_, _-_, _*_, _≤_, _<_}
 use native.Mathlib.Omega.{arith}
 use lib.ListN.{length, getD}
-use Rattle.arnr.specs.Internal.{Front}
-use Rattle.arnr.proofs.Fronts.{front-none, front-more}
+use Rattle.denoiser.specs.Internal.{Front}
+use Rattle.denoiser.proofs.Fronts.{front-none, front-more}
 use borrow.Author.Needs.{needs}
 use Rattle.arnr.proofs.build.seed.Statement.{statement}
 use Rattle.arnr.proofs.build.seed.Tie as tie

@@ -5,7 +5,7 @@ use lib.IntN.{ℤ, pos, _+ℤ_}
 use lib.ListN.{length, getD}
 use mir.Facts.{toZ-ofZ}
 use Rattle.prediction.specs.Plane.{nearestIn}
-use Rattle.arnr.proofs.Planes.{sample-below, displaced-at, short-fits}
+use Rattle.denoiser.proofs.Planes.{sample-below, displaced-at, short-fits}
 use native.Mathlib.Omega.{arith}
 use borrow.Author.Needs.{needs}
 use Rattle.arnr.proofs.sad.displaced.Statement.{statement}

@@ -4,9 +4,9 @@ use native.Mathlib.Nat.{not-suc-le-zero}
 use lib.ListN.{length, getD, length-set}
 use lib.IntN.{pos}
 use Rattle.prediction.specs.Plane.{sampleAt}
-use Rattle.arnr.specs.Search.{displacedBy}
-use Rattle.arnr.specs.Internal.{planeIn}
-use Rattle.arnr.proofs.Raise.{filled-more}
+use Rattle.denoiser.specs.Search.{displacedBy}
+use Rattle.denoiser.specs.Internal.{planeIn}
+use Rattle.denoiser.proofs.Raise.{filled-more}
 use native.Mathlib.Omega.{arith}
 use borrow.Author.Needs.{needs}
 use Rattle.arnr.proofs.sad.displaced_row.Statement.{statement}

@@ -4,8 +4,8 @@ use lib.ListN.{length, getD}
 use lib.IntN.{pos}
 use Rattle.prediction.specs.Samples.{distance}
 use Rattle.prediction.specs.Plane.{sampleAt}
-use Rattle.arnr.specs.Search.{sadOf, displacedBy}
-use Rattle.arnr.specs.Internal.{planeIn, packedPlane, lumaCost}
+use Rattle.denoiser.specs.Search.{sadOf, displacedBy}
+use Rattle.denoiser.specs.Internal.{planeIn, packedPlane, lumaCost}
 use Rattle.laws.specs.Sums.{sumBelow, sum-none, sum-more}
 use native.Mathlib.Omega.{arith}
 use borrow.Author.Needs.{needs}

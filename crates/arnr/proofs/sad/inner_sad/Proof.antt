@@ -7,7 +7,7 @@ use Prim.Native.Nat.{ℕ, _+_, _*_, _-_, _≤_, _<_}
 use lib.ListN.{length, getD}
 use borrow.Rule.Slice.PartMut.{midOf}
 use Rattle.prediction.specs.Samples.{distance}
-use Rattle.arnr.specs.Internal.{rowDistance}
+use Rattle.denoiser.specs.Internal.{rowDistance}
 use Rattle.laws.specs.Sums.{sumBelow, sum-none, sum-more, sum-same}
 use Rattle.laws.specs.Slices.{mid-at, mid-long}
 use Rattle.arnr.proofs.sad.inner_sad.Statement.{statement}

@@ -1,7 +1,7 @@
 use mathlib.Core.Path.{_≡_, ap, _∙_}
 use Prim.Native.Nat.{ℕ, _*_, _-_, _≤_, _<_}
 use lib.ListN.{length, getD}
-use Rattle.arnr.specs.Internal.{rowDistance}
+use Rattle.denoiser.specs.Internal.{rowDistance}
 use Rattle.laws.specs.Sums.{sumBelow, sum-none, sum-more}
 use native.Mathlib.Omega.{arith}
 use borrow.Author.Needs.{needs}

@@ -4,11 +4,11 @@ use native.Mathlib.Nat.{add-sub-cancel-left}
 use lib.ListN.{length, getD, take, length-take}
 use lib.IntN.{pos}
 use Rattle.prediction.specs.Plane.{sampleAt}
-use Rattle.arnr.specs.Search.{displacedBy}
-use Rattle.arnr.specs.Internal.{planeIn, packedPlane}
-use Rattle.arnr.proofs.Planes.{row-below, luma-at}
+use Rattle.denoiser.specs.Search.{displacedBy}
+use Rattle.denoiser.specs.Internal.{planeIn, packedPlane}
+use Rattle.denoiser.proofs.Planes.{row-below, luma-at}
 use Rattle.laws.specs.Slices.{mid-long}
-use Rattle.arnr.proofs.Place.{apart-is}
+use Rattle.denoiser.proofs.Place.{apart-is}
 use Rattle.laws.specs.Sums.{sum-same}
 use native.Mathlib.Omega.{arith}
 use borrow.Author.Needs.{needs}

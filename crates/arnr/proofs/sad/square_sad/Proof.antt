@@ -8,12 +8,12 @@ use lib.ListN.{getD}
 use mir.Facts.{toZ-ofZ}
 use Rattle.prediction.specs.Samples.{distance}
 use Rattle.prediction.specs.Plane.{sampleAt, nearestIn}
-use Rattle.arnr.specs.declared.PlaneNumbers.{PlaneNumbers}
-use Rattle.arnr.specs.declared.Block.{Block}
-use Rattle.arnr.specs.declared.Shift.{Shift}
-use Rattle.arnr.specs.Search.{sadOf}
-use Rattle.arnr.specs.Internal.{Lies, packedPlane, lumaCost}
-use Rattle.arnr.proofs.Planes.{sample-below, row-below, luma-at, displaced-at, short-fits}
+use Rattle.denoiser.specs.declared.PlaneNumbers.{PlaneNumbers}
+use Rattle.denoiser.specs.declared.Block.{Block}
+use Rattle.denoiser.specs.declared.Shift.{Shift}
+use Rattle.denoiser.specs.Search.{sadOf}
+use Rattle.denoiser.specs.Internal.{Lies, packedPlane, lumaCost}
+use Rattle.denoiser.proofs.Planes.{sample-below, row-below, luma-at, displaced-at, short-fits}
 use Rattle.laws.specs.Sums.{sumBelow, sum-same}
 use borrow.Author.Needs.{needs}
 use Rattle.arnr.proofs.sad.square_sad.Statement.{statement}

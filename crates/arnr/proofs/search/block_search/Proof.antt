@@ -2,11 +2,11 @@
 use mathlib.Core.Path.{_≡_, ap, _∙_, refl, sym}
 use Prim.Native.Nat.{ℕ}
 use lib.IntN.{pos}
-use Rattle.arnr.specs.declared.Shift.{Shift}
-use Rattle.arnr.specs.declared.Motion.{Motion}
-use Rattle.arnr.specs.Search.{still, stepBest, blockSearch}
-use Rattle.arnr.specs.Internal.{Reach, Measured, lumaCost}
-use Rattle.arnr.proofs.Searches.{step-best-reach, wider}
+use Rattle.denoiser.specs.declared.Shift.{Shift}
+use Rattle.denoiser.specs.declared.Motion.{Motion}
+use Rattle.denoiser.specs.Search.{still, stepBest, blockSearch}
+use Rattle.denoiser.specs.Internal.{Reach, Measured, lumaCost}
+use Rattle.denoiser.proofs.Searches.{step-best-reach, wider}
 use native.Mathlib.Omega.{arith}
 use borrow.Author.Needs.{needs}
 use Rattle.arnr.proofs.search.block_search.Statement.{statement}

@@ -5,8 +5,8 @@ use lib.Dec.{ltb}
 use lib.IntN.{ℤ}
 use mir.Facts.{toZ-ofZ}
 use borrow.Author.Tests.{lt-ltb, le-ltb}
-use Rattle.arnr.specs.Search.{squarePlace, stepTo, neighbourOf}
-use Rattle.arnr.proofs.Planes.{short-fits, same-shift}
+use Rattle.denoiser.specs.Search.{squarePlace, stepTo, neighbourOf}
+use Rattle.denoiser.proofs.Planes.{short-fits, same-shift}
 use native.Mathlib.Omega.{arith}
 use borrow.Author.Needs.{needs, sfits-of}
 use mir.Syntax.{w32}

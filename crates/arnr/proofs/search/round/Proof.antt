@@ -2,11 +2,11 @@
 use mathlib.Core.Path.{_≡_, ap, _∙_, refl, sym}
 use Prim.Native.Nat.{ℕ, _+_, _-_, _≤_, _<_}
 use Rattle.laws.specs.Best.{betterOf, bestOf, best-none, best-more}
-use Rattle.arnr.specs.declared.Shift.{Shift}
-use Rattle.arnr.specs.declared.Motion.{Motion}
-use Rattle.arnr.specs.Search.{neighbourOf, stepBest}
-use Rattle.arnr.specs.Internal.{Reach, Short, Measured, lumaCost}
-use Rattle.arnr.proofs.Searches.{neighbour-reach, wider}
+use Rattle.denoiser.specs.declared.Shift.{Shift}
+use Rattle.denoiser.specs.declared.Motion.{Motion}
+use Rattle.denoiser.specs.Search.{neighbourOf, stepBest}
+use Rattle.denoiser.specs.Internal.{Reach, Short, Measured, lumaCost}
+use Rattle.denoiser.proofs.Searches.{neighbour-reach, wider}
 use native.Mathlib.Omega.{arith}
 use borrow.Author.Needs.{needs}
 use Rattle.arnr.proofs.search.round.Statement.{statement}

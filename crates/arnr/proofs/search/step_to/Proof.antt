@@ -7,7 +7,7 @@ use mir.Val.{SFits, toZ, ofZ}
 use mir.ValLaws.{toZ-pos}
 use mir.Facts.{toZ-ofZ}
 use Rattle.laws.specs.Signed.{above, below, range, sum, diff}
-use Rattle.arnr.specs.Search.{stepTo}
+use Rattle.denoiser.specs.Search.{stepTo}
 use native.Mathlib.Omega.{arith}
 use borrow.Author.Needs.{needs}
 use Rattle.arnr.proofs.search.step_to.Statement.{statement}

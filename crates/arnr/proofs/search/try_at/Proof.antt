@@ -2,9 +2,9 @@
 use mathlib.Core.Path.{_≡_, ap, _∙_, refl, sym}
 use Prim.Native.Nat.{ℕ, _<_, _≤_}
 use Rattle.laws.specs.Best.{betterOf, better-less, better-not}
-use Rattle.arnr.specs.declared.Shift.{Shift}
-use Rattle.arnr.specs.declared.Motion.{Motion}
-use Rattle.arnr.specs.Internal.{Measured, lumaCost}
+use Rattle.denoiser.specs.declared.Shift.{Shift}
+use Rattle.denoiser.specs.declared.Motion.{Motion}
+use Rattle.denoiser.specs.Internal.{Measured, lumaCost}
 use native.Mathlib.Omega.{arith}
 use borrow.Author.Needs.{needs}
 use Rattle.arnr.proofs.search.try_at.Statement.{statement}

@@ -10,9 +10,9 @@ use lib.IntN.{ℤ, pos, _+ℤ_}
 use borrow.Author.Tests.{lt-ltb, le-ltb}
 use Rattle.laws.specs.Signed.{above, below, sum, diff}
 use Rattle.laws.specs.Best.{betterOf, bestOf}
-use Rattle.arnr.specs.declared.Shift.{Shift}
-use Rattle.arnr.specs.Search.{squarePlace, stepTo, neighbourOf, stepBest, blockSearch, still}
-use Rattle.arnr.specs.Internal.{Reach, Short}
+use Rattle.denoiser.specs.declared.Shift.{Shift}
+use Rattle.denoiser.specs.Search.{squarePlace, stepTo, neighbourOf, stepBest, blockSearch, still}
+use Rattle.denoiser.specs.Internal.{Reach, Short}
 
 -- a neighbour is one step further at most
 step-reach : (v : ℤ) (m place step : ℕ) → place ≤ 2 → above v ≤ m → below v ≤ m

@@ -11,12 +11,12 @@ use mir.Val.{SFits}
 use Rattle.laws.specs.Signed.{fits, quot}
 use Rattle.prediction.specs.Plane.{Plane, sampleAt, nearestIn}
 use Rattle.window.specs.Layout.{sideOf, offsetOf, packedSize}
-use Rattle.arnr.specs.declared.Block.{Block}
-use Rattle.arnr.specs.declared.Shift.{Shift}
-use Rattle.arnr.specs.declared.PlaneNumbers.{PlaneNumbers}
-use Rattle.arnr.specs.Grid.{blockIn}
-use Rattle.arnr.specs.Search.{displacedBy, shiftIn}
-use Rattle.arnr.specs.Internal.{Fits, Short, Lies, planeIn, packedPlane}
+use Rattle.denoiser.specs.declared.Block.{Block}
+use Rattle.denoiser.specs.declared.Shift.{Shift}
+use Rattle.denoiser.specs.declared.PlaneNumbers.{PlaneNumbers}
+use Rattle.denoiser.specs.Grid.{blockIn}
+use Rattle.denoiser.specs.Search.{displacedBy, shiftIn}
+use Rattle.denoiser.specs.Internal.{Fits, Short, Lies, planeIn, packedPlane}
 
 pub sample-below : (bytes : List ℕ) (p : PlaneNumbers) → Fits bytes p → (x y : ℕ) → x < p .columns → y < p .rows
     → p .start + y * p .stride + x < length bytes

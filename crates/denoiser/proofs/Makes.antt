@@ -11,12 +11,12 @@ use lib.Seq.{drop-at, take-at}
 use borrow.Author.Tests.{eq-eqb, ne-eqb}
 use Rattle.window.specs.Layout.{packedSize}
 use Rattle.window.specs.Frames.{frameAt, frameCount}
-use Rattle.arnr.specs.Window.{Picture, centreAt, sumAt, totalAt, denoisedAt, acceptedBlocks, arnrRule}
-use Rattle.arnr.specs.Pictures.{pictureOf}
-use Rattle.arnr.specs.Demand.{Held}
-use Rattle.arnr.specs.Build.{Request, sceneOf, windowOf, cropped, packed, filled, builtOf, samplesOf}
-use Rattle.arnr.specs.Internal.{Shows, Legal, Blended, Made}
-use Rattle.arnr.proofs.Packs.{shows-is}
+use Rattle.denoiser.specs.Window.{Picture, centreAt, sumAt, totalAt, denoisedAt, acceptedBlocks, arnrRule}
+use Rattle.denoiser.specs.Pictures.{pictureOf}
+use Rattle.denoiser.specs.Demand.{Held}
+use Rattle.denoiser.specs.Build.{Request, sceneOf, windowOf, cropped, packed, filled, builtOf, samplesOf}
+use Rattle.denoiser.specs.Internal.{Shows, Legal, Blended, Made}
+use Rattle.denoiser.proofs.Packs.{shows-is}
 
 -- when the centre is only cropped
 pub crops-one : (q : Request) → frameCount (q .numbers) ≡ 1 → cropped q ≡ true

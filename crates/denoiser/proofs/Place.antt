@@ -15,9 +15,9 @@ use borrow.Rule.Slice.PartMut.{putMid, midOf, same-len-mid}
 use Rattle.laws.specs.Slices.{mid-at, mid-long, put-before, put-inside, put-after}
 use Rattle.prediction.specs.Samples.{distance}
 use Rattle.prediction.specs.Plane.{Samples}
-use Rattle.arnr.specs.Window.{gate}
-use Rattle.arnr.specs.Internal.{Room, Light, Raised, Placed, both, between, rowDistance, rowShare, rowTerm, shareBy, termBy}
-use Rattle.arnr.proofs.Planes.{row-below}
+use Rattle.denoiser.specs.Window.{gate}
+use Rattle.denoiser.specs.Internal.{Room, Light, Raised, Placed, both, between, rowDistance, rowShare, rowTerm, shareBy, termBy}
+use Rattle.denoiser.proofs.Planes.{row-below}
 
 pub placed-none : (at columns rows : ℕ) (f : ℕ → ℕ → ℕ) (l : List ℕ) → ((x y : ℕ) → f x y ≡ 0) → Placed at columns rows f l l
 placed-none at columns rows f l z =

@@ -11,8 +11,8 @@ use lib.Dec.{eqb, ltb}
 use lib.ListN.{length, getD, List·getD-eq-default}
 use borrow.Author.Tests.{eq-eqb, ne-eqb, lt-ltb, le-ltb}
 use Rattle.window.specs.Layout.{sideOf, offsetOf, packedSize, placeOf}
-use Rattle.arnr.specs.Internal.{Lent, Room, Slack, Placed, Spread}
-use Rattle.arnr.proofs.Planes.{below-end}
+use Rattle.denoiser.specs.Internal.{Lent, Room, Slack, Placed, Spread}
+use Rattle.denoiser.proofs.Planes.{below-end}
 
 pub spread-none : (w h : ℕ) (f : ℕ → ℕ → ℕ → ℕ) (l : List ℕ) → ((k x y : ℕ) → x < sideOf k w → y < sideOf k h → f k x y ≡ 0) → Spread w h f l l
 spread-none w h f l z =

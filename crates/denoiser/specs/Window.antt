@@ -9,10 +9,10 @@ use Rattle.prediction.specs.Samples.{distance}
 use Rattle.prediction.specs.Plane.{Samples}
 use Rattle.weights.specs.Weights.{weightRead}
 use Rattle.weights.specs.Blend.{totalWeight, weightedSum, denoised}
-use Rattle.arnr.specs.declared.Block.{Block}
-use Rattle.arnr.specs.declared.Shift.{Shift}
-use Rattle.arnr.specs.Grid.{gridBlock, gridSide, unitOf}
-use Rattle.arnr.specs.Search.{sadOf, displacedBy, blockSearch, shiftIn}
+use Rattle.denoiser.specs.declared.Block.{Block}
+use Rattle.denoiser.specs.declared.Shift.{Shift}
+use Rattle.denoiser.specs.Grid.{gridBlock, gridSide, unitOf}
+use Rattle.denoiser.specs.Search.{sadOf, displacedBy, blockSearch, shiftIn}
 
 -- a picture: the samples of each plane, edge samples repeated
 abbrev pub Picture : Type 0

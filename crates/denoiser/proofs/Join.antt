@@ -16,13 +16,13 @@ use Rattle.prediction.specs.Plane.{Samples}
 use Rattle.weights.specs.Weights.{scale, weightOf, weightRead}
 use Rattle.weights.proofs.Weights.{zero-weight, read-none, read-some, read-most}
 use Rattle.window.specs.Layout.{sideOf}
-use Rattle.arnr.specs.declared.Block.{Block}
-use Rattle.arnr.specs.declared.Shift.{Shift}
-use Rattle.arnr.specs.Grid.{gridBlock, gridSide, unitOf}
-use Rattle.arnr.specs.Search.{sadOf, displacedBy, blockSearch, shiftIn}
-use Rattle.arnr.specs.Window.{Picture, Scene, Rule, gate, centreAt, shareOf, acceptedIn, costOf, shiftOf, sadAccepted, blockAccepted, displacedAt, arnrRule}
-use Rattle.arnr.specs.Internal.{curveRule, curveShare, curveTerm}
-use Rattle.arnr.proofs.Cover.{grid-lies, within-grid}
+use Rattle.denoiser.specs.declared.Block.{Block}
+use Rattle.denoiser.specs.declared.Shift.{Shift}
+use Rattle.denoiser.specs.Grid.{gridBlock, gridSide, unitOf}
+use Rattle.denoiser.specs.Search.{sadOf, displacedBy, blockSearch, shiftIn}
+use Rattle.denoiser.specs.Window.{Picture, Scene, Rule, gate, centreAt, shareOf, acceptedIn, costOf, shiftOf, sadAccepted, blockAccepted, displacedAt, arnrRule}
+use Rattle.denoiser.specs.Internal.{curveRule, curveShare, curveTerm}
+use Rattle.denoiser.proofs.Cover.{grid-lies, within-grid}
 
 -- the SAD looks at the rectangle only
 sad-same : (a b m : Samples) (r : Block) → ((x y : ℕ) → x < r .x + r .columns → y < r .y + r .rows → a (pos x) (pos y) ≡ b (pos x) (pos y)) → sadOf a m r ≡ sadOf b m r

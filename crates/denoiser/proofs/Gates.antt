@@ -6,8 +6,8 @@ use native.Mathlib.Omega.{arith}
 use native.Mathlib.Decide.{decLt, decLe, ℕ-discrete}
 use lib.Dec.{eqb, leb, ltb}
 use borrow.Author.Tests.{eq-eqb, ne-eqb, le-leb, lt-leb, lt-ltb, le-ltb}
-use Rattle.arnr.specs.Window.{gate}
-use Rattle.arnr.specs.Internal.{both, between}
+use Rattle.denoiser.specs.Window.{gate}
+use Rattle.denoiser.specs.Internal.{both, between}
 
 -- the one step of every count: what is below i, with i itself, is what is below i + 1
 pub gate-step : (k i v : ℕ) → gate (ltb k i) v + gate (eqb k i) v ≡ gate (ltb k (i + 1)) v

@@ -9,8 +9,8 @@ use Rattle.laws.specs.Sums.{sumBelow}
 use Rattle.laws.specs.Best.{bestOf}
 use Rattle.prediction.specs.Samples.{distance}
 use Rattle.prediction.specs.Plane.{Samples, movedBy}
-use Rattle.arnr.specs.declared.Block.{Block}
-use Rattle.arnr.specs.declared.Shift.{Shift}
+use Rattle.denoiser.specs.declared.Block.{Block}
+use Rattle.denoiser.specs.declared.Shift.{Shift}
 
 -- the sum of absolute differences (SAD) of two sample functions over a rectangle
 unfoldable pub sadOf : Samples → Samples → Block → ℕ

@@ -6,7 +6,7 @@ use lib.Dec.{eqb}
 use Rattle.prediction.specs.Plane.{sampleAt}
 use Rattle.window.specs.declared.Frame.{Frame}
 use Rattle.window.specs.Frames.{planeOf, frameAt}
-use Rattle.arnr.specs.Window.{Picture}
+use Rattle.denoiser.specs.Window.{Picture}
 
 -- a frame's picture: the samples of its planes
 unfoldable pub pictureOf : List ℕ → Frame → Picture

@@ -8,8 +8,8 @@ use Rattle.prediction.specs.Samples.{distance}
 use Rattle.weights.specs.Weights.{weightRead}
 use Rattle.weights.specs.Blend.{distanceBound}
 use Rattle.window.specs.Layout.{sideOf, placeOf}
-use Rattle.arnr.specs.Grid.{unitOf}
-use Rattle.arnr.specs.Window.{Scene, Window, Rule, gate, centreAt, shareOf}
+use Rattle.denoiser.specs.Grid.{unitOf}
+use Rattle.denoiser.specs.Window.{Scene, Window, Rule, gate, centreAt, shareOf}
 
 -- what the three lent slices hold: the output, the sums and the total weights
 pub record Held : Type 0 where

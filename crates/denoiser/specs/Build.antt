@@ -11,12 +11,12 @@ use Rattle.window.specs.declared.Frame.{Frame}
 use Rattle.window.specs.Layout.{sideOf, packedSize}
 use Rattle.window.specs.Frames.{frameCount, frameAt}
 use Rattle.window.specs.Refusals.{Given, given, buildLines, refusalOutcome}
-use Rattle.arnr.specs.declared.Built.{Built}
-use Rattle.arnr.specs.declared.BuildAnswer.{BuildAnswer}
-use Rattle.arnr.specs.declared.BuildAnswer.the-variants.{Done, Refused}
-use Rattle.arnr.specs.Window.{Picture, Scene, Window, Rule, centreAt, totalAt, sumAt, denoisedAt, acceptedBlocks, arnrRule}
-use Rattle.arnr.specs.Pictures.{pictureOf, othersOf}
-use Rattle.arnr.specs.Demand.{Held, Demand3}
+use Rattle.denoiser.specs.declared.Built.{Built}
+use Rattle.denoiser.specs.declared.BuildAnswer.{BuildAnswer}
+use Rattle.denoiser.specs.declared.BuildAnswer.the-variants.{Done, Refused}
+use Rattle.denoiser.specs.Window.{Picture, Scene, Window, Rule, centreAt, totalAt, sumAt, denoisedAt, acceptedBlocks, arnrRule}
+use Rattle.denoiser.specs.Pictures.{pictureOf, othersOf}
+use Rattle.denoiser.specs.Demand.{Held, Demand3}
 
 -- what is asked of a builder: the picture bytes, the numbers of the frames, the centre index and the strength byte
 pub record Request : Type 0 where

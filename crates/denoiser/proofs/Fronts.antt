@@ -10,8 +10,8 @@ use lib.Seq.{getD-set-same, getD-set-other}
 use borrow.Rule.Slice.PartMut.{putMid, midOf, same-len-mid}
 use Rattle.laws.specs.Slices.{mid-long, put-before, put-inside, put-after}
 use Rattle.window.specs.Layout.{half, sideOf, placeOf}
-use Rattle.arnr.specs.Internal.{Room, Front, Stored, Shows}
-use Rattle.arnr.proofs.Planes.{below-end, row-below}
+use Rattle.denoiser.specs.Internal.{Room, Front, Stored, Shows}
+use Rattle.denoiser.proofs.Planes.{below-end, row-below}
 
 pub front-none : (f : ℕ → ℕ) (l : List ℕ) → Front 0 f l l
 front-none f l = record { long = refl; within = λ k h. absurd (not-suc-le-zero h); past = λ k h. refl }

@@ -7,11 +7,11 @@ use native.Mathlib.Omega.{arith}
 use native.Mathlib.Decide.{decLt, decLe, ℕ-discrete}
 use lib.Dec.{eqb, leb, ltb}
 use borrow.Author.Tests.{eq-eqb, ne-eqb, le-leb, lt-leb, lt-ltb, le-ltb}
-use Rattle.arnr.specs.Window.{gate}
-use Rattle.arnr.specs.Internal.{both, between, within, Lies}
-use Rattle.arnr.proofs.Gates.{gate-both, gate-eq, gate-on, gate-off, gate-zero}
+use Rattle.denoiser.specs.Window.{gate}
+use Rattle.denoiser.specs.Internal.{both, between, within, Lies}
+use Rattle.denoiser.proofs.Gates.{gate-both, gate-eq, gate-on, gate-off, gate-zero}
 use Rattle.window.specs.Layout.{sideOf}
-use Rattle.arnr.specs.Grid.{gridBlock, gridSide, blockIn, unitOf}
+use Rattle.denoiser.specs.Grid.{gridBlock, gridSide, blockIn, unitOf}
 
 -- a range of n numbers from a on, tested by its ends or by a test that agrees with them
 between-is : (a n x q j : ℕ) → (q ≡ j → (a ≤ x) × (x < a + n)) → (a ≤ x → x < a + n → q ≡ j) → between a n x ≡ eqb q j

@@ -17,15 +17,15 @@ use Rattle.window.specs.Layout.{half, sideOf, packedSize}
 use Rattle.window.specs.Frames.{frameAt, frameCount, planeOf}
 use Rattle.window.specs.Refusals.{Given, buildLines, refusalOutcome, centreOf, sizeOf, checks, checkedOutcome}
 use Rattle.window.proofs.Built as window
-use Rattle.arnr.specs.declared.Built.{Built}
-use Rattle.arnr.specs.declared.BuildAnswer.{BuildAnswer}
-use Rattle.arnr.specs.declared.BuildAnswer.the-variants.{Done, Refused}
-use Rattle.arnr.specs.Window.{Picture, Scene, Rule, sumAt, totalAt, denoisedAt, arnrRule}
-use Rattle.arnr.specs.Demand.{Held, Demand3}
-use Rattle.arnr.specs.Build.{Request, BuildInput, givenOf, sceneOf, windowOf, cropped, filled, builtOf, samplesOf, outcomeOf, buildOutcome, outputAfter, workingAfter, BuildBy}
-use Rattle.arnr.specs.Internal.{Fits, Whole, Frames, Lent, Legal, Made, numbersOf}
-use Rattle.arnr.proofs.Blends.{window-fair, window-byte}
-use Rattle.arnr.proofs.Demands.{demand-3}
+use Rattle.denoiser.specs.declared.Built.{Built}
+use Rattle.denoiser.specs.declared.BuildAnswer.{BuildAnswer}
+use Rattle.denoiser.specs.declared.BuildAnswer.the-variants.{Done, Refused}
+use Rattle.denoiser.specs.Window.{Picture, Scene, Rule, sumAt, totalAt, denoisedAt, arnrRule}
+use Rattle.denoiser.specs.Demand.{Held, Demand3}
+use Rattle.denoiser.specs.Build.{Request, BuildInput, givenOf, sceneOf, windowOf, cropped, filled, builtOf, samplesOf, outcomeOf, buildOutcome, outputAfter, workingAfter, BuildBy}
+use Rattle.denoiser.specs.Internal.{Fits, Whole, Frames, Lent, Legal, Made, numbersOf}
+use Rattle.denoiser.proofs.Blends.{window-fair, window-byte}
+use Rattle.denoiser.proofs.Demands.{demand-3}
 
 -- an outcome with another answer
 retag : {A B : Type 0} → B → Outcome A → Outcome B

@@ -13,8 +13,8 @@ use borrow.Author.Tests.{eq-eqb, ne-eqb}
 use Rattle.laws.specs.Sums.{sumOver, sum-over-append, sum-over-most}
 use Rattle.weights.proofs.Bound.{Each}
 use Rattle.window.specs.Frames.{frameAt}
-use Rattle.arnr.specs.Window.{Picture}
-use Rattle.arnr.specs.Pictures.{pictureOf, allBut, othersOf}
+use Rattle.denoiser.specs.Window.{Picture}
+use Rattle.denoiser.specs.Pictures.{pictureOf, allBut, othersOf}
 
 sum-map : {A B : Type 0} (f : B → ℕ) (p : A → B) (xs : List A) → sumOver f (map p xs) ≡ sumOver (λ x. f (p x)) xs
 unfolding sumOver

@@ -9,7 +9,7 @@ use native.Mathlib.Omega.{arith}
 use native.Mathlib.Decide.{decLt, ℕ-discrete}
 use lib.ListN.{length, getD, set, length-set}
 use lib.Seq.{getD-set-same, getD-set-other}
-use Rattle.arnr.specs.Internal.{Raised}
+use Rattle.denoiser.specs.Internal.{Raised}
 
 pub raised-none : (f : ℕ → ℕ) (l : List ℕ) → Raised f 0 l l
 raised-none f l = record { long = refl; within = λ k h. absurd (not-suc-le-zero h); past = λ k h. refl }

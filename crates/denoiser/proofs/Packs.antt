@@ -9,10 +9,10 @@ use lib.ListN.{length, getD, drop, length-append, length-drop, List·getD-append
 use lib.Seq.{ext-getD, getD-append-add, getD-drop}
 use Rattle.laws.specs.Tabulate.{tabulate, length-tabulate, getD-tabulate}
 use Rattle.window.specs.Layout.{half, sideOf, offsetOf, packedSize, placeOf}
-use Rattle.arnr.specs.Window.{Scene}
-use Rattle.arnr.specs.Build.{planeList, packed, filled}
-use Rattle.arnr.specs.Internal.{Shows}
-use Rattle.arnr.proofs.Planes.{below-end}
+use Rattle.denoiser.specs.Window.{Scene}
+use Rattle.denoiser.specs.Build.{planeList, packed, filled}
+use Rattle.denoiser.specs.Internal.{Shows}
+use Rattle.denoiser.proofs.Planes.{below-end}
 
 -- a place below P is a sample's
 pub record Found (w h i : ℕ) : Type 0 where

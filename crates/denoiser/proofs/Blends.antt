@@ -14,16 +14,16 @@ use Rattle.weights.specs.Blend.{totalWeight, weightedSum, denoised}
 use Rattle.weights.proofs.Bound.{Each}
 use Rattle.window.specs.Layout.{sideOf, packedSize, placeOf}
 use Rattle.window.specs.Frames.{frameAt, frameCount}
-use Rattle.arnr.specs.Window.{Picture, Scene, Window, Rule, centreAt, shareOf, totalAt, sumAt, denoisedAt, acceptedIn, acceptedBlocks, displacedAt, arnrRule}
-use Rattle.arnr.specs.Pictures.{pictureOf, othersOf}
-use Rattle.arnr.specs.Build.{Request, sceneOf, windowOf, packed}
-use Rattle.arnr.specs.Internal.{Room, Slack, Front, Spread, Shows, Ready, Legal, packedPicture, packedScene, curveRule, curveShare, curveTerm}
-use Rattle.arnr.proofs.Demands.{Fair, sample-byte, total-some, total-most, sum-most}
-use Rattle.arnr.proofs.Join.{Agree, share-joined, term-joined, count-joined, curve-at}
-use Rattle.arnr.proofs.Others.{others-each, others-count}
-use Rattle.arnr.proofs.Packs.{Found, found, place-below, shows-is}
-use Rattle.arnr.proofs.Pictures.{picture-byte}
-use Rattle.arnr.proofs.Planes.{packed-at}
+use Rattle.denoiser.specs.Window.{Picture, Scene, Window, Rule, centreAt, shareOf, totalAt, sumAt, denoisedAt, acceptedIn, acceptedBlocks, displacedAt, arnrRule}
+use Rattle.denoiser.specs.Pictures.{pictureOf, othersOf}
+use Rattle.denoiser.specs.Build.{Request, sceneOf, windowOf, packed}
+use Rattle.denoiser.specs.Internal.{Room, Slack, Front, Spread, Shows, Ready, Legal, packedPicture, packedScene, curveRule, curveShare, curveTerm}
+use Rattle.denoiser.proofs.Demands.{Fair, sample-byte, total-some, total-most, sum-most}
+use Rattle.denoiser.proofs.Join.{Agree, share-joined, term-joined, count-joined, curve-at}
+use Rattle.denoiser.proofs.Others.{others-each, others-count}
+use Rattle.denoiser.proofs.Packs.{Found, found, place-below, shows-is}
+use Rattle.denoiser.proofs.Pictures.{picture-byte}
+use Rattle.denoiser.proofs.Planes.{packed-at}
 
 -- room in a list of n entries that holds f, none above m
 pub front-room : (n m r : ℕ) (f : ℕ → ℕ) (old now : List ℕ) → length old ≡ n → Front n f old now → ((k : ℕ) → f k ≤ m) → m + r < 2 ^ 32 → Room r now

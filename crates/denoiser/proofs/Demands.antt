@@ -12,12 +12,12 @@ use Rattle.weights.specs.Blend.{totalWeight, weightedSum, denoised, distanceBou
 use Rattle.weights.proofs.Weights.{read-most}
 use Rattle.weights.proofs.Bound.{Each, Shared, within-bound, denoised-byte, total-limit, sum-limit}
 use Rattle.window.specs.Layout.{sideOf, packedSize}
-use Rattle.arnr.specs.Grid.{unitOf}
-use Rattle.arnr.specs.Window.{Scene, Window, Rule, gate, centreAt, shareOf, totalAt, sumAt, denoisedAt}
-use Rattle.arnr.specs.Demand.{Held, SampleIs, Demand3, entryAt}
-use Rattle.arnr.specs.Build.{packed, filled}
-use Rattle.arnr.proofs.Gates.{gate-most}
-use Rattle.arnr.proofs.Packs.{packed-sample}
+use Rattle.denoiser.specs.Grid.{unitOf}
+use Rattle.denoiser.specs.Window.{Scene, Window, Rule, gate, centreAt, shareOf, totalAt, sumAt, denoisedAt}
+use Rattle.denoiser.specs.Demand.{Held, SampleIs, Demand3, entryAt}
+use Rattle.denoiser.specs.Build.{packed, filled}
+use Rattle.denoiser.proofs.Gates.{gate-most}
+use Rattle.denoiser.proofs.Packs.{packed-sample}
 
 -- what is asked of a rule: of each other frame, a displaced sample is a byte and no weight exceeds the curve's
 pub record Fair {F : Type 0} (rule : Rule F) (s : Scene) (f : F) : Type 0 where

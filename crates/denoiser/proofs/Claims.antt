@@ -5,7 +5,9 @@ use mathlib.Core.Logic.{⊎-elim}
 use Prim.Native.Nat.{ℕ, zero, suc, _+_, _*_, _/_, _≤_, _<_}
 use native.Mathlib.Nat.{le-trans}
 use native.Mathlib.Omega.{arith}
+use lib.IntN.{ℤ}
 use lib.ListN.{length, getD}
+use Rattle.laws.specs.Signed.{above, below, quot}
 use Rattle.laws.specs.Outcome.{accepted}
 use Rattle.laws.specs.Best.{best-is}
 use Rattle.weights.proofs.Bound.{Each}
@@ -13,19 +15,19 @@ use Rattle.window.specs.declared.Size.{Size}
 use Rattle.window.specs.declared.Checked.the-variants.{Legal}
 use Rattle.window.specs.Layout.{sideOf}
 use Rattle.window.specs.Refusals.{checks}
-use Rattle.arnr.specs.declared.Block.{Block}
-use Rattle.arnr.specs.declared.Shift.{Shift}
-use Rattle.arnr.specs.Grid.{gridBlock, gridSide, blockIn, unitOf}
-use Rattle.arnr.specs.Search.{still, neighbourOf, stepBest, blockSearch}
-use Rattle.arnr.specs.Window.{totalAt, sumAt, arnrRule}
-use Rattle.arnr.specs.Build.{BuildInput, givenOf, sceneOf, windowOf}
-use Rattle.arnr.specs.Internal.{Reach, Short}
-use Rattle.arnr.proofs.Answers.{legal}
-use Rattle.arnr.proofs.Blends.{window-fair, window-byte, window-few}
-use Rattle.arnr.proofs.Cover.{grid-lies, within-grid}
-use Rattle.arnr.proofs.Demands.{total-most, sum-most}
-use Rattle.arnr.proofs.Planes.{block-fits}
-use Rattle.arnr.proofs.Searches.{neighbour-reach, wider, step-best-reach}
+use Rattle.denoiser.specs.declared.Block.{Block}
+use Rattle.denoiser.specs.declared.Shift.{Shift}
+use Rattle.denoiser.specs.Grid.{gridBlock, gridSide, blockIn, unitOf}
+use Rattle.denoiser.specs.Search.{still, neighbourOf, stepBest, blockSearch, shiftIn}
+use Rattle.denoiser.specs.Window.{totalAt, sumAt, arnrRule}
+use Rattle.denoiser.specs.Build.{BuildInput, givenOf, sceneOf, windowOf}
+use Rattle.denoiser.specs.Internal.{Reach, Short}
+use Rattle.denoiser.proofs.Answers.{legal}
+use Rattle.denoiser.proofs.Blends.{window-fair, window-byte, window-few}
+use Rattle.denoiser.proofs.Cover.{grid-lies, within-grid}
+use Rattle.denoiser.proofs.Demands.{total-most, sum-most}
+use Rattle.denoiser.proofs.Planes.{block-fits}
+use Rattle.denoiser.proofs.Searches.{neighbour-reach, wider, step-best-reach}
 
 -- (x, y) is in the block
 pub record Covers (b : Block) (x y : ℕ) : Type 0 where
@@ -185,3 +187,13 @@ module _ (b : BuildInput) (s : Size) (e : checks (givenOf b) ≡ accepted s) (by
       let l = legal b (Legal s) s (sym e) refl in
       sum-most (arnrRule (sceneOf (b .request))) (windowOf (b .request)) k x y (window-fair (b .request) (s .width) (s .height) l byte)
       (window-byte (b .request) (s .width) (s .height) l byte k x y) (window-few (b .request) (s .width) (s .height) l byte)
+
+-- a number halved toward zero: what it has above zero, and what it has below, is halved and rounded down
+pub record Halves (v half : ℤ) : Type 0 where
+  pub up : above half ≡ above v / 2
+  pub dn : below half ≡ below v / 2
+
+-- the chroma displacement is the luma displacement halved toward zero
+pub chroma-halves : (k : ℕ) (d : Shift) → Halves (d .dx) (shiftIn (suc k) d .dx) × Halves (d .dy) (shiftIn (suc k) d .dy)
+chroma-halves k d =
+    (record { up = quot (d .dx) 2 .up; dn = quot (d .dx) 2 .dn }, record { up = quot (d .dy) 2 .up; dn = quot (d .dy) 2 .dn })

@@ -1,4 +1,4 @@
--- What the private contracts of this crate speak of: parts of the lent slices, and what is added to them. No public contract uses these. Assumes nothing.
+-- What the private contracts of the crate `arnr` speak of: parts of the lent slices, and what is added to them. No public contract uses these. Assumes nothing.
 use mathlib.Core.Path.{_≡_}
 use mathlib.Core.Bool.{Bool, true, false, cond}
 use mathlib.Core.List.{List, [], _∷_}
@@ -13,14 +13,14 @@ use Rattle.window.specs.declared.Frame.{Frame}
 use Rattle.window.specs.Layout.{sideOf, offsetOf, packedSize, placeOf}
 use Rattle.weights.specs.Blend.{denoised}
 use Rattle.window.specs.Frames.{startOf, strideOf, planeOf, frameAt, frameCount}
-use Rattle.arnr.specs.declared.Block.{Block}
-use Rattle.arnr.specs.declared.Shift.{Shift}
-use Rattle.arnr.specs.declared.PlaneNumbers.{PlaneNumbers}
-use Rattle.arnr.specs.declared.Motion.{Motion}
-use Rattle.arnr.specs.Search.{sadOf, displacedBy}
-use Rattle.arnr.specs.Window.{Picture, Scene, Rule, gate, shareOf, sumAt, totalAt, denoisedAt, acceptedBlocks, blockAccepted, displacedAt, arnrRule}
-use Rattle.arnr.specs.Demand.{Held}
-use Rattle.arnr.specs.Build.{Request, sceneOf, windowOf, cropped, packed, filled, builtOf, samplesOf}
+use Rattle.denoiser.specs.declared.Block.{Block}
+use Rattle.denoiser.specs.declared.Shift.{Shift}
+use Rattle.denoiser.specs.declared.PlaneNumbers.{PlaneNumbers}
+use Rattle.denoiser.specs.declared.Motion.{Motion}
+use Rattle.denoiser.specs.Search.{sadOf, displacedBy}
+use Rattle.denoiser.specs.Window.{Picture, Scene, Rule, gate, shareOf, sumAt, totalAt, denoisedAt, acceptedBlocks, blockAccepted, displacedAt, arnrRule}
+use Rattle.denoiser.specs.Demand.{Held}
+use Rattle.denoiser.specs.Build.{Request, sceneOf, windowOf, cropped, packed, filled, builtOf, samplesOf}
 
 -- the numbers of plane k of a frame, and the plane of such numbers in the bytes
 abbrev pub numbersOf : Frame → ℕ → PlaneNumbers

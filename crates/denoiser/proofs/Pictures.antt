@@ -10,14 +10,14 @@ use lib.ListN.{getD}
 use Rattle.prediction.specs.Plane.{sampleAt}
 use Rattle.window.specs.declared.Frame.{Frame}
 use Rattle.window.specs.Frames.{planeOf}
-use Rattle.arnr.specs.Grid.{unitOf}
-use Rattle.arnr.specs.Search.{displacedBy, shiftIn}
-use Rattle.arnr.specs.Window.{Picture, Scene, gate, shareOf, shiftOf, blockAccepted, displacedAt}
-use Rattle.arnr.specs.Pictures.{pictureOf}
-use Rattle.arnr.specs.Internal.{Light, shareBy, termBy, curveRule, curveShare, curveTerm}
-use Rattle.arnr.proofs.Gates.{gate-most, gate-times}
-use Rattle.arnr.proofs.Place.{share-most, term-most}
-use Rattle.arnr.proofs.Planes.{sample-byte}
+use Rattle.denoiser.specs.Grid.{unitOf}
+use Rattle.denoiser.specs.Search.{displacedBy, shiftIn}
+use Rattle.denoiser.specs.Window.{Picture, Scene, gate, shareOf, shiftOf, blockAccepted, displacedAt}
+use Rattle.denoiser.specs.Pictures.{pictureOf}
+use Rattle.denoiser.specs.Internal.{Light, shareBy, termBy, curveRule, curveShare, curveTerm}
+use Rattle.denoiser.proofs.Gates.{gate-most, gate-times}
+use Rattle.denoiser.proofs.Place.{share-most, term-most}
+use Rattle.denoiser.proofs.Planes.{sample-byte}
 
 -- every sample of a picture is a byte
 pub picture-byte : (bytes : List ℕ) (f : Frame) → ((i : ℕ) → getD bytes i 0 < 256) → (k : ℕ) (x y : ℤ) → pictureOf bytes f k x y ≤ 255

@@ -1,7 +1,7 @@
 -- The blocks of a picture. Assumes nothing.
 use Prim.Native.Nat.{ℕ, zero, suc, _+_, _-_, _*_, _/_, min}
 use Rattle.window.specs.Layout.{half}
-use Rattle.arnr.specs.declared.Block.{Block}
+use Rattle.denoiser.specs.declared.Block.{Block}
 
 -- blocks are 16 by 16, cut at the right and bottom edge to bw by bh: the block in row i and column j of the grid
 abbrev pub gridBlock : ℕ → ℕ → ℕ → ℕ → Block

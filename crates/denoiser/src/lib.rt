@@ -1,0 +1,43 @@
+// What the denoiser's definitions speak of; the code that is held to them stands in the crate `arnr`.
+use window::Refusal;
+
+// A rectangle of a plane.
+pub struct Block {
+    pub x: usize,
+    pub y: usize,
+    pub columns: usize,
+    pub rows: usize,
+}
+
+// A displacement in whole samples: columns to the right, rows down.
+pub struct Shift {
+    pub dx: i32,
+    pub dy: i32,
+}
+
+// A plane in the picture bytes: where it starts, the bytes from row to row, and its size.
+pub struct PlaneNumbers {
+    pub start: usize,
+    pub stride: usize,
+    pub columns: usize,
+    pub rows: usize,
+}
+
+// A displacement and its SAD.
+pub struct Motion {
+    pub shift: Shift,
+    pub sad: u32,
+}
+
+// The picture's size, and the number of accepted blocks over all other frames.
+pub struct Built {
+    pub width: u32,
+    pub height: u32,
+    pub accepted: u32,
+}
+
+// A builder's answer.
+pub enum BuildAnswer {
+    Done(Built),
+    Refused(Refusal),
+}
