@@ -14,7 +14,7 @@ use Rattle.prediction.specs.declared.motion_comp.FilterSet.the-variants.{Sixtap
 use Rattle.motion_search.specs.declared.motion_search.SearchResult.{SearchResult}
 use Rattle.motion_search.specs.declared.motion_search.DiamondResult.{DiamondResult}
 use Rattle.window.specs.declared.Size.{Size}
-use Rattle.arnr.specs.declared.Built.{Built}
+use Rattle.denoiser.specs.declared.Built.{Built}
 use Rattle.model.specs.declared.answers.Status.{Status}
 use Rattle.model.specs.declared.answers.Sample.{Sample}
 use Rattle.model.specs.declared.answers.Vector.{Vector}

@@ -1,8 +1,8 @@
 -- What a builder promises to C. Assumes nothing.
 use mathlib.Core.Path.{_≡_}
-use Rattle.arnr.specs.declared.BuildAnswer.{BuildAnswer}
-use Rattle.arnr.specs.Demand.{Held}
-use Rattle.arnr.specs.Build.{BuildInput, BuildIs, buildOutcome}
+use Rattle.denoiser.specs.declared.BuildAnswer.{BuildAnswer}
+use Rattle.denoiser.specs.Demand.{Held}
+use Rattle.denoiser.specs.Build.{BuildInput, BuildIs, buildOutcome}
 use Rattle.model.specs.declared.answers.Build.{Build}
 use Rattle.model.specs.Answers.{buildNumbers}
 

@@ -1,6 +1,6 @@
 // Weights, configurations, frames as numbers and the builders for C.
 use crate::answers::Build;
-use arnr::BuildAnswer;
+use denoiser::BuildAnswer;
 use weights::ArnrConfig;
 use window::Checked;
 use window::Frame;
@@ -12,8 +12,8 @@ ghost use Rattle.weights.specs.Weights.{scale, weightRead};
 ghost use Rattle.weights.specs.Blend.{distanceBound};
 ghost use Rattle.window.specs.Frames.{frameCount, frameAt};
 ghost use Rattle.window.specs.Refusals.{given, checks, checkedOutcome, refusalOutcome};
-ghost use Rattle.arnr.specs.Demand.{Held};
-ghost use Rattle.arnr.specs.Build.{asked, BuildInput, buildOutcome};
+ghost use Rattle.denoiser.specs.Demand.{Held};
+ghost use Rattle.denoiser.specs.Build.{asked, BuildInput, buildOutcome};
 ghost use Rattle.altref.specs.Records.{flat};
 ghost use Rattle.model.specs.Answers.{build, buildNumbers, checkNumbers};
 ghost use Rattle.model.specs.Builders.{BuildExport};

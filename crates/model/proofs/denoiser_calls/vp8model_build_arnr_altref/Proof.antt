@@ -51,13 +51,13 @@ use denote.Exit.{yes}
 use Rattle.window.specs.declared.Frame.{Frame}
 use Rattle.window.proofs.Frame as T
 use Rattle.weights.specs.declared.ArnrConfig.{ArnrConfig}
-use Rattle.arnr.specs.declared.BuildAnswer.{BuildAnswer}
-use Rattle.arnr.specs.Demand.{Held}
-use Rattle.arnr.specs.Build.{asked, BuildInput, BuildIs, buildOutcome}
+use Rattle.denoiser.specs.declared.BuildAnswer.{BuildAnswer}
+use Rattle.denoiser.specs.Demand.{Held}
+use Rattle.denoiser.specs.Build.{asked, BuildInput, BuildIs, buildOutcome}
 use Rattle.weights.proofs.ArnrConfig as Cf
 use Rattle.weights.proofs.ArnrConfig.Laws as Cf′
-use Rattle.arnr.proofs.BuildAnswer as S
-use Rattle.arnr.proofs.BuildAnswer.Laws as S′
+use Rattle.denoiser.proofs.BuildAnswer as S
+use Rattle.denoiser.proofs.BuildAnswer.Laws as S′
 use Rattle.altref.specs.Records.{flat}
 use Rattle.altref.proofs.build_arnr_altref as altref
 use Rattle.altref.proofs.build_arnr_altref.Symbol as altref-def
