@@ -4,6 +4,7 @@ use denoiser::PlaneNumbers;
 use denoiser::Shift;
 use prediction::inverse_transform;
 ghost use mathlib.Core.Path.{_≡_};
+ghost use mathlib.Core.Bool.{true};
 ghost use Prim.Native.Nat.{ℕ, _+_, _-_, _*_, _<_, _≤_};
 ghost use lib.IntN.{pos, _+ℤ_};
 ghost use lib.ListN.{length, getD};
@@ -12,7 +13,7 @@ ghost use Rattle.laws.specs.Sums.{sumBelow};
 ghost use Rattle.prediction.specs.Samples.{distance};
 ghost use Rattle.prediction.specs.Plane.{sampleAt, nearestIn};
 ghost use Rattle.denoiser.specs.Search.{displacedBy};
-ghost use Rattle.denoiser.specs.Internal.{Fits, Short, Span, Lies, planeIn, packedPlane, rowDistance, lumaCost};
+ghost use Rattle.denoiser.specs.Internal.{Fits, Short, Span, Runs, Lies, planeIn, packedPlane, rowDistance, lumaCost};
 
 // The coordinate nearest to x + d among 0 .. n - 1.
 fn edge(x: usize, d: i32, n: usize) -> usize
@@ -40,7 +41,52 @@ fn displaced(bytes: &[u8], p: PlaneNumbers, x: usize, y: usize, d: Shift) -> u8
     bytes[at]
 }
 
-// A row of n displaced samples, from (x, y) on.
+// A row of n displaced samples, from (x, y) on, wherever they lie.
+fn edge_row(bytes: &[u8], p: PlaneNumbers, x: usize, y: usize, n: usize, d: Shift) -> [u8; 16]
+    requires { ⌜ Fits (now bytes) p ⌝ }
+    requires { ⌜ Span (p .columns) (p .rows) x y n ⌝ }
+    requires { ⌜ Short d ⌝ }
+    ensures { λ r. ⌜ ((k : ℕ) → k < n → getD r k 0 ≡ displacedBy d (sampleAt (planeIn (now (bytes .entry)) p)) (pos (x + k)) (pos y)) ⌝ }
+{
+    let mut row = [0u8; 16];
+    let mut k = 0;
+    while k < n {
+        row[k] = displaced(bytes, p, x + k, y, d);
+        k += 1;
+    }
+    row
+}
+
+// Whether there are columns, n of them from x on, and all lie in the plane once moved by d.
+fn runs_inside(x: usize, n: usize, d: i32, columns: usize) -> bool
+    requires { ⌜ (x + n ≤ columns) × (columns ≤ 16383) × (above d ≤ 15) × (below d ≤ 15) ⌝ }
+    ensures { λ r. ⌜ (r ≡ true → Runs x n d columns) ⌝ }
+{
+    if n == 0 {
+        return false;
+    }
+    let first = (x as i32) + d;
+    if first < 0 {
+        return false;
+    }
+    (first as usize) + n <= columns
+}
+
+// The first n samples from a place on.
+fn inner_row(bytes: &[u8], at: usize, n: usize) -> [u8; 16]
+    requires { ⌜ (n ≤ 16) × (at + n ≤ length (now bytes)) ⌝ }
+    ensures { λ r. ⌜ ((k : ℕ) → k < n → getD r k 0 ≡ getD (now (bytes .entry)) (at + k) 0) ⌝ }
+{
+    let mut row = [0u8; 16];
+    let mut k = 0;
+    while k < n {
+        row[k] = bytes[at + k];
+        k += 1;
+    }
+    row
+}
+
+// A row of n displaced samples, from (x, y) on: copied where they lie in the plane.
 pub(crate) fn displaced_row(
     bytes: &[u8],
     p: PlaneNumbers,
@@ -54,13 +100,13 @@ pub(crate) fn displaced_row(
     requires { ⌜ Short d ⌝ }
     ensures { λ r. ⌜ ((k : ℕ) → k < n → getD r k 0 ≡ displacedBy d (sampleAt (planeIn (now (bytes .entry)) p)) (pos (x + k)) (pos y)) ⌝ }
 {
-    let mut row = [0u8; 16];
-    let mut k = 0;
-    while k < n {
-        row[k] = displaced(bytes, p, x + k, y, d);
-        k += 1;
+    if runs_inside(x, n, d.dx, p.columns) {
+        let cx = edge(x, d.dx, p.columns);
+        let cy = edge(y, d.dy, p.rows);
+        let at = p.start + cy * p.stride + cx;
+        return inner_row(bytes, at, n);
     }
-    row
+    edge_row(bytes, p, x, y, n, d)
 }
 
 // The absolute difference of two samples.

@@ -59,6 +59,12 @@ pub record Span (columns rows x y n : ℕ) : Type 0 where
   pub wide : x + n ≤ columns
   pub high : y < rows
 
+-- there are columns, n of them from x on, and all lie among 0 .. columns - 1 once moved by d
+pub record Runs (x n : ℕ) (d : ℤ) (columns : ℕ) : Type 0 where
+  pub some : 0 < n
+  pub left : below d ≤ x + above d
+  pub right : x + above d + n ≤ columns + below d
+
 -- a block lies in a plane
 pub record Lies (b : Block) (columns rows : ℕ) : Type 0 where
   pub slim : b .columns ≤ 16

@@ -1,65 +1,113 @@
-use mathlib.Core.Path.{_≡_, ap, _∙_, refl}
-use Prim.Native.Nat.{ℕ, _+_, _-_, _≤_, _<_}
-use native.Mathlib.Nat.{not-suc-le-zero}
-use lib.ListN.{length, getD, length-set}
-use lib.IntN.{pos}
-use Rattle.prediction.specs.Plane.{sampleAt}
-use Rattle.denoiser.specs.Search.{displacedBy}
-use Rattle.denoiser.specs.Internal.{planeIn}
-use Rattle.denoiser.proofs.Raise.{filled-more}
+-- `arnr::sad::displaced_row` meets its contract: columns that all lie in the plane once moved stand side by side. Assumes nothing.
+use mathlib.Core.Path.{_≡_, ap, _∙_}
+use Prim.Native.Nat.{ℕ, _+_, _-_, _*_, _≤_, _<_}
 use native.Mathlib.Omega.{arith}
+use lib.IntN.{ℤ, pos, _+ℤ_}
+use lib.ListN.{length, getD}
+use mir.Facts.{toZ-ofZ}
 use borrow.Author.Needs.{needs}
+use Rattle.laws.specs.Signed.{sum}
+use Rattle.prediction.specs.Plane.{nearestIn}
+use Rattle.denoiser.specs.Internal.{Runs}
+use Rattle.denoiser.proofs.Planes.{sample-below, displaced-at, short-fits}
 use Rattle.arnr.proofs.sad.displaced_row.Statement.{statement}
 use Rattle.arnr.proofs.sad.displaced_row.Tie as tie
 
-abbrev Inv-loop : tie.InvT-loop
-Inv-loop bytes p x y n d row₀ k₀ row k =
-    (k ≤ n) × (length row ≡ 16) × ((j : ℕ) → j < k → getD row j 0 ≡ displacedBy d (sampleAt (planeIn bytes p)) (pos (x + j)) (pos y))
+-- columns that lie in the plane once moved
+module _ (columns x n : ℕ) (d : ℤ) (cx : ℕ) (runs : Runs x n d columns) (first : cx ≡ nearestIn columns (pos x +ℤ d)) where
+  end : cx + n ≤ columns
+  end = omega (arith, sum (pos x) d .up, runs .some, runs .left, runs .right)
 
-abbrev μ-loop : tie.MeasureT-loop
-μ-loop bytes p x y n d row₀ k₀ row k = n - k
+  along : (k : ℕ) → k < n → cx + k ≡ nearestIn columns (pos (x + k) +ℤ d)
+  along k h = omega (arith, sum (pos x) d .up, sum (pos (x + k)) d .up, runs .left, runs .right)
 
-loop-holds : tie.Need-loop-holds Inv-loop μ-loop
-loop-holds c = (search needs, refl, λ j h. absurd (not-suc-le-zero h))
+-- where the test holds
+module _ (c : tie.After-edge2) where
+  abbrev start : tie.Start
+  start = c .before .before .before .before .before .before .before .before
 
-add-displaced : tie.Need-add-displaced Inv-loop μ-loop
-add-displaced c = search needs
+  runs : Runs (start .args .x) (start .args .n) (start .args .d .dx) (start .args .p .columns)
+  runs =
+      rw (toZ-ofZ (short-fits (start .args .d) (start .pre .1 .1) .0)) at
+      (c .before .before .before .before .before .runs-inside .ensures (c .before .before .before .before .if1 .taken))
 
-displaced-requires : tie.Need-displaced-requires Inv-loop μ-loop
-displaced-requires c κs =
-    let s = c .before .before .before in
-    (s .pre .0, (omega (arith, s .pre .1 .0 .wide, s .pre .1 .0 .high), (s .pre .1 .1)))
+  column : c .before .before .edge .result ≡ nearestIn (start .args .p .columns) (pos (start .args .x) +ℤ start .args .d .dx)
+  column =
+      c .before .before .edge .ensures
+      ∙ ap (λ (v : ℤ). nearestIn (start .args .p .columns) (pos (start .args .x) +ℤ v)) (toZ-ofZ (short-fits (start .args .d) (start .pre .1 .1) .0))
 
-array-write-row : tie.Need-array-write-row Inv-loop μ-loop
-array-write-row c = search needs
+  line : c .edge2 .result ≡ nearestIn (start .args .p .rows) (pos (start .args .y) +ℤ start .args .d .dy)
+  line =
+      c .edge2 .ensures
+      ∙ ap (λ (v : ℤ). nearestIn (start .args .p .rows) (pos (start .args .y) +ℤ v)) (toZ-ofZ (short-fits (start .args .d) (start .pre .1 .1) .1))
 
-add-k : tie.Need-add-k Inv-loop μ-loop
-add-k c = search needs
+  below : start .args .p .start + c .edge2 .result * start .args .p .stride + c .before .before .edge .result + start .args .n
+      ≤ length (start .args .bytes .now)
+  below =
+      let p = start .args .p in
+      let cx = c .before .before .edge .result in
+      let n = start .args .n in
+      let e = end (p .columns) (start .args .x) n (start .args .d .dx) cx runs column in
+      let r : c .edge2 .result < p .rows = omega (arith, line, start .pre .0 .high) in
+      omega (arith, sample-below (start .args .bytes .now) p (start .pre .0) (cx + (n - 1)) (c .edge2 .result) (omega (arith, e, runs .some)) r, runs .some)
 
-loop-less : tie.Need-loop-less Inv-loop μ-loop
-loop-less c = search needs
+runs-inside-requires : tie.Need-runs-inside-requires
+runs-inside-requires c κs = search needs
 
-loop-again : tie.Need-loop-again Inv-loop μ-loop
-loop-again c =
-    let at = c .before .before .loop in
-    (omega arith, length-set (at .row) (at .k) (c .displaced .result) ∙ at .inv .1, filled-more _ (at .row) (at .k) (c .displaced .result) (omega arith) (c .displaced .ensures) (at .inv .2))
+edge-requires : tie.Need-edge-requires
+edge-requires c κs =
+    let s = c .before .before .before .before .before in
+    let r = c .before .before .runs-inside .ensures (c .before .if1 .taken) in
+    let f = s .pre .0 in
+    (omega (arith, r .some, s .pre .1 .0 .wide), f .wide .1, search needs, search needs)
 
-returns : tie.Need-returns Inv-loop μ-loop
+edge-requires-2 : tie.Need-edge-requires-2
+edge-requires-2 c κs = search needs
+
+mul-at : tie.Need-mul-at
+mul-at c = omega (arith, below (c .before))
+
+add-at : tie.Need-add-at
+add-at c = omega (arith, below (c .before .before))
+
+add-at-2 : tie.Need-add-at-2
+add-at-2 c = omega (arith, below (c .before .before))
+
+inner-row-requires : tie.Need-inner-row-requires
+inner-row-requires c κs = (start (c .before .before) .pre .1 .0 .short, below (c .before .before))
+
+returns : tie.Need-returns
 returns c =
-    let s = c .before .before .before in
-    λ k h. (c .before .loop .inv .2 k (omega arith))
+    let e = c .before .before .before in
+    let s = start e in
+    let p = s .args .p in
+    let cx = e .before .before .edge .result in
+    let cy = e .edge2 .result in λ k h.
+    c .inner-row .ensures k h
+    ∙ ap (λ (i : ℕ). getD (s .args .bytes .now) i 0) (beside (p .start + cy * p .stride) cx k)
+    ∙ displaced-at (s .args .bytes .now) p (s .args .d) (s .args .x + k) (s .args .y)
+    (along (p .columns) (s .args .x) (s .args .n) (s .args .d .dx) cx (runs e) (column e) k h) (line e)
+  where
+    beside : (a b k : ℕ) → a + b + k ≡ a + (b + k)
+    beside a b k = omega arith
+
+edge-row-requires : tie.Need-edge-row-requires
+edge-row-requires c κs = search needs
+
+returns-2 : tie.Need-returns-2
+returns-2 c = search needs
 
 pub displaced-row-spec : {M : Type 1} → statement M
 displaced-row-spec =
     tie.close
     (tie.spec
-    Inv-loop
-    μ-loop
-    loop-holds
-    add-displaced
-    displaced-requires
-    array-write-row
-    add-k
-    loop-less
-    loop-again
-    returns)
+    runs-inside-requires
+    edge-requires
+    edge-requires-2
+    mul-at
+    add-at
+    add-at-2
+    inner-row-requires
+    returns
+    edge-row-requires
+    returns-2)
