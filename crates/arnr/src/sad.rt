@@ -13,7 +13,7 @@ ghost use Rattle.laws.specs.Sums.{sumBelow};
 ghost use Rattle.prediction.specs.Samples.{distance};
 ghost use Rattle.prediction.specs.Plane.{sampleAt, nearestIn};
 ghost use Rattle.denoiser.specs.Search.{displacedBy};
-ghost use Rattle.denoiser.specs.Internal.{Fits, Short, Span, Runs, Lies, planeIn, packedPlane, rowDistance, lumaCost};
+ghost use Rattle.denoiser.specs.Internal.{Fits, Short, Span, Runs, Lies, planeIn, packedPlane, rowDistance, rowsDistance, lumaCost};
 
 // The coordinate nearest to x + d among 0 .. n - 1.
 fn edge(x: usize, d: i32, n: usize) -> usize
@@ -116,8 +116,8 @@ fn difference(a: u8, b: u8) -> u32
     inverse_transform::abs_diff(a, b) as u32
 }
 
-// The SAD of two rows.
-fn row_sad(a: &[u8], b: &[u8]) -> u32
+// The SAD of two rows of any length.
+fn short_row_sad(a: &[u8], b: &[u8]) -> u32
     requires { ⌜ (length (now b) ≡ length (now a)) × (length (now a) ≤ 16) ⌝ }
     ensures { λ r. ⌜ (r ≡ sumBelow (rowDistance (now (a .entry)) (now (b .entry))) (length (now (a .entry)))) × (r ≤ 4080) ⌝ }
 {
@@ -139,6 +139,31 @@ fn sad16(a: &[u8], b: &[u8]) -> u32
     let mut k = 0;
     while k < 16 {
         sum += difference(a[k], b[k]);
+        k += 1;
+    }
+    sum
+}
+
+// The SAD of two rows.
+fn row_sad(a: &[u8], b: &[u8]) -> u32
+    requires { ⌜ (length (now b) ≡ length (now a)) × (length (now a) ≤ 16) ⌝ }
+    ensures { λ r. ⌜ (r ≡ sumBelow (rowDistance (now (a .entry)) (now (b .entry))) (length (now (a .entry)))) × (r ≤ 4080) ⌝ }
+{
+    if a.len() == 16 {
+        return sad16(a, b);
+    }
+    short_row_sad(a, b)
+}
+
+// The SAD of two rows of 16 and of two others.
+fn two_rows_sad(a: &[u8], b: &[u8], c: &[u8], d: &[u8]) -> u32
+    requires { ⌜ (length (now a) ≡ 16) × (length (now b) ≡ 16) × (length (now c) ≡ 16) × (length (now d) ≡ 16) ⌝ }
+    ensures { λ r. ⌜ (r ≡ sumBelow (rowsDistance (now (a .entry)) (now (b .entry)) (now (c .entry)) (now (d .entry))) 16) × (r ≤ 8160) ⌝ }
+{
+    let mut sum: u32 = 0;
+    let mut k = 0;
+    while k < 16 {
+        sum += difference(a[k], b[k]) + difference(c[k], d[k]);
         k += 1;
     }
     sum
@@ -188,7 +213,7 @@ fn edge_sad(bytes: &[u8], p: PlaneNumbers, b: Block, d: Shift, centre: &[u8]) ->
     sum
 }
 
-// The SAD of two blocks of 16 by 16.
+// The SAD of two blocks of 16 by 16: two rows a turn.
 fn inner_sad(a: &[u8], at: usize, stride: usize, b: &[u8], from: usize, across: usize) -> u32
     requires { ⌜ (at + 15 * stride + 16 ≤ length (now a)) × (from + 15 * across + 16 ≤ length (now b)) ⌝ }
     ensures { λ r. ⌜ r ≡ sumBelow (λ y. sumBelow (λ k. distance (getD (now (a .entry)) (at + y * stride + k) 0)
@@ -199,8 +224,10 @@ fn inner_sad(a: &[u8], at: usize, stride: usize, b: &[u8], from: usize, across: 
     while r < 16 {
         let i = at + r * stride;
         let j = from + r * across;
-        sum += sad16(&a[i..i + 16], &b[j..j + 16]);
-        r += 1;
+        let k = i + stride;
+        let l = j + across;
+        sum += two_rows_sad(&a[i..i + 16], &b[j..j + 16], &a[k..k + 16], &b[l..l + 16]);
+        r += 2;
     }
     sum
 }

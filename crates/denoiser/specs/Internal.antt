@@ -120,6 +120,10 @@ rowShare curve centre displaced k = getD curve (distance (getD displaced k 0) (g
 unfoldable pub rowTerm : List ℕ → List ℕ → List ℕ → ℕ → ℕ
 rowTerm curve centre displaced k = rowShare curve centre displaced k * getD displaced k 0
 
+-- two rows and two others, side by side
+unfoldable pub rowsDistance : List ℕ → List ℕ → List ℕ → List ℕ → ℕ → ℕ
+rowsDistance a b c d k = rowDistance a b k + rowDistance c d k
+
 -- the same of two sample functions, at (x, y)
 unfoldable pub shareBy : List ℕ → Samples → Samples → ℕ → ℕ → ℕ
 shareBy curve c s x y = getD curve (distance (s (pos x) (pos y)) (c (pos x) (pos y))) 0

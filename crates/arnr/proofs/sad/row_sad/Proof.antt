@@ -1,63 +1,25 @@
-use mathlib.Core.Path.{_≡_, ap, _∙_}
-use Prim.Native.Nat.{ℕ, _*_, _-_, _≤_, _<_}
-use lib.ListN.{length, getD}
-use Rattle.denoiser.specs.Internal.{rowDistance}
-use Rattle.laws.specs.Sums.{sumBelow, sum-none, sum-more}
-use native.Mathlib.Omega.{arith}
+-- `arnr::sad::row_sad` meets its contract. Assumes nothing.
+use mathlib.Core.Path.{_≡_, sym, ap, _∙_}
+use Prim.Native.Nat.{ℕ}
 use borrow.Author.Needs.{needs}
+use Rattle.laws.specs.Sums.{sumBelow}
+use Rattle.denoiser.specs.Internal.{rowDistance}
 use Rattle.arnr.proofs.sad.row_sad.Statement.{statement}
 use Rattle.arnr.proofs.sad.row_sad.Tie as tie
 
-abbrev Inv-loop : tie.InvT-loop
-Inv-loop a b sum₀ k₀ sum k = (k ≤ length a) × (sum ≡ sumBelow (rowDistance a b) k) × (sum ≤ 255 * k)
+sad16-requires : tie.Need-sad16-requires
+sad16-requires c κs = search needs
 
-abbrev μ-loop : tie.MeasureT-loop
-μ-loop a b sum₀ k₀ sum k = length a - k
-
-loop-holds : tie.Need-loop-holds Inv-loop μ-loop
-loop-holds c = (search needs, sum-none _, search needs)
-
-shared-slice-read-difference : tie.Need-shared-slice-read-difference Inv-loop μ-loop
-shared-slice-read-difference c = search needs
-
-shared-slice-read-difference-2 : tie.Need-shared-slice-read-difference-2 Inv-loop μ-loop
-shared-slice-read-difference-2 c = search needs
-
-difference-requires : tie.Need-difference-requires Inv-loop μ-loop
-difference-requires c κs = search needs
-
-add-sum : tie.Need-add-sum Inv-loop μ-loop
-add-sum c = search needs
-
-add-k : tie.Need-add-k Inv-loop μ-loop
-add-k c = search needs
-
-loop-less : tie.Need-loop-less Inv-loop μ-loop
-loop-less c = search needs
-
-loop-again : tie.Need-loop-again Inv-loop μ-loop
-unfolding rowDistance
-loop-again c =
-    let l = c .before .before .before .before .loop in
-    (omega arith, sum-more _ (l .k) (c .difference .result) (l .sum) (l .inv .1) (c .difference .ensures .0), omega (arith, c .difference .ensures .1))
-
-returns : tie.Need-returns Inv-loop μ-loop
+returns : tie.Need-returns
 returns c =
-    let k-is : c .before .loop .k ≡ length (c .before .before .before .before .args .a .now) = omega arith in
-    (rw k-is at (c .before .loop .inv .1), omega arith)
+    let a = c .before .before .before .before .args in
+    (c .sad16 .ensures .0 ∙ ap (sumBelow (rowDistance (a .a .now) (a .b .now))) (sym (c .before .if1 .taken)), c .sad16 .ensures .1)
+
+short-row-sad-requires : tie.Need-short-row-sad-requires
+short-row-sad-requires c κs = search needs
+
+returns-2 : tie.Need-returns-2
+returns-2 c = search needs
 
 pub row-sad-spec : {M : Type 1} → statement M
-row-sad-spec =
-    tie.close
-    (tie.spec
-    Inv-loop
-    μ-loop
-    loop-holds
-    shared-slice-read-difference
-    shared-slice-read-difference-2
-    difference-requires
-    add-sum
-    add-k
-    loop-less
-    loop-again
-    returns)
+row-sad-spec = tie.close (tie.spec sad16-requires returns short-row-sad-requires returns-2)
