@@ -23,7 +23,8 @@ pub fn run() {
     let build = if cfg!(feature = "simd") { "simd" } else { "plain" };
     println!("bench: Rust {build}, release, opt-level 3; both sides for baseline x86-64");
     println!("{ROUNDS} rounds, the sides alternated, warm buffers; time of a call, least and median of the rounds");
-    println!("ratio = Rust's time / the model's; the Rust builder allocates its output, the model's is lent it");
+    println!("ratio = Rust's time / the model's; the Rust builder allocates its output, the model's is lent it;");
+    println!("a percentage is the share of accepted blocks: the last builder's window is a still picture with noise");
     println!("{:<40} {:>21} {:>21} {:>13}", "", "model", "Rust", "ratio");
     println!(
         "{:<40} {:>10} {:>10} {:>10} {:>10} {:>6} {:>6}",
@@ -35,7 +36,8 @@ pub fn run() {
     let frames = [2, 3, 5, 7, 9, 15].map(|count| ((WIDTH, HEIGHT), count));
     let sizes = [(176, 144), (704, 576)].map(|size| (size, 7));
     let windows = [&frames[..], &sizes].concat();
-    let times: Vec<[f64; 2]> = windows.iter().map(|&(size, count)| builder(size, count)).collect();
+    let times: Vec<[f64; 2]> = windows.iter().map(|&(size, count)| builder(size, count, 1)).collect();
+    builder((WIDTH, HEIGHT), 7, 0);
     println!("builder, least time for each sample of the picture and each other frame:");
     for (((width, height), count), least) in windows.into_iter().zip(times) {
         let shares = packed_size(width as u64, height as u64) as f64 * (count - 1) as f64;
@@ -181,18 +183,21 @@ fn searches() {
     println!("  of that a macroblock, least: model {ours}, Rust {rust}");
 }
 
-// The pictures of a moving texture with noise, packed.
-fn pictures((width, height): (usize, usize), count: usize) -> Vec<u8> {
+// The pictures of a texture with noise, packed; it moves by (2, 3) times `step` from one to the next.
+fn pictures((width, height): (usize, usize), count: usize, step: usize) -> Vec<u8> {
     let (columns, rows) = (width.div_ceil(2), height.div_ceil(2));
     let plane = |seed: usize, columns: usize, rows: usize| content::bytes(5, seed as u64, columns * rows, columns);
-    let chroma = |g: usize, k: usize| plane(100 * k + g + 256 * g, columns, rows);
-    (0..count).flat_map(|g| [plane(2 * g + 256 * 3 * g, width, height), chroma(g, 1), chroma(g, 2)].concat()).collect()
+    // the noise of each plane follows from more of its seed than the texture's place
+    let at = |g: usize, k: usize, across: usize, down: usize| 100 * k + (across + 256 * down) * g * step + (g << 16);
+    let chroma = |g: usize, k: usize| plane(at(g, k, 1, 1), columns, rows);
+    let picture = |g: usize| [plane(at(g, 0, 2, 3), width, height), chroma(g, 1), chroma(g, 2)].concat();
+    (0..count).flat_map(picture).collect()
 }
 
-// The builder at strength 3, the centre in the middle.
-fn builder((width, height): (usize, usize), count: usize) -> [f64; 2] {
+// The builder at strength 3, the centre in the middle; the share of accepted blocks stands in the name.
+fn builder((width, height): (usize, usize), count: usize, step: usize) -> [f64; 2] {
     let samples = packed_size(width as u64, height as u64) as usize;
-    let bytes = pictures((width, height), count);
+    let bytes = pictures((width, height), count, step);
     let (y, columns) = (width * height, width.div_ceil(2));
     let u = y + columns * height.div_ceil(2);
     let number = |g: usize| [width, height, g * samples, g * samples + y, g * samples + u, width, columns];
@@ -202,13 +207,14 @@ fn builder((width, height): (usize, usize), count: usize) -> [f64; 2] {
     let (mut output, mut sums, mut weights) = (vec![0; samples], vec![0; samples], vec![0; samples]);
     let mut ours = || {
         let lent = model::Lent { output: &mut output, sums: &mut sums, weights: &mut weights };
-        black_box(model::build_from_numbers(black_box(&bytes), black_box(&numbers), count / 2, 3, lent));
+        black_box(model::build_from_numbers(black_box(&bytes), black_box(&numbers), count / 2, 3, lent)).accepted
     };
     let rust = || build_arnr_altref(black_box(&frames), count / 2, &ArnrConfig::new(3)).expect("a legal window");
-    ours();
+    let blocks = width.div_ceil(16) * height.div_ceil(16) * (count - 1);
+    let accepted = ours() as usize * 100 / blocks;
     let ArnrPicture { y, u, v, .. } = rust();
-    let name = format!("builder {width}x{height}, {count} frames");
-    let times = measure(&name, ours, || _ = black_box(rust()));
+    let name = format!("builder {width}x{height}, {count} frames, {accepted}%");
+    let times = measure(&name, || _ = ours(), || _ = black_box(rust()));
     assert_eq!(output, [y, u, v].concat());
     times
 }
