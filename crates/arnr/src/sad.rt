@@ -13,7 +13,7 @@ ghost use Rattle.laws.specs.Sums.{sumBelow};
 ghost use Rattle.prediction.specs.Samples.{distance};
 ghost use Rattle.prediction.specs.Plane.{sampleAt, nearestIn};
 ghost use Rattle.denoiser.specs.Search.{displacedBy};
-ghost use Rattle.denoiser.specs.Internal.{Fits, Short, Span, Runs, Lies, planeIn, packedPlane, rowDistance, rowsDistance, lumaCost};
+ghost use Rattle.denoiser.specs.Internal.{Fits, Short, Span, Runs, Lies, planeIn, packedPlane, rowDistance, rowsDistance, lumaCost, Capped};
 
 // The coordinate nearest to x + d among 0 .. n - 1.
 fn edge(x: usize, d: i32, n: usize) -> usize
@@ -192,13 +192,13 @@ fn span_sad(
     row_sad(&centre[from..to], &row[..n])
 }
 
-// The SAD of a displaced block, wherever it lies.
-fn edge_sad(bytes: &[u8], p: PlaneNumbers, b: Block, d: Shift, centre: &[u8]) -> u32
+// The SAD of a displaced block, wherever it lies, or a part of it that has reached the ceiling.
+fn edge_sad(bytes: &[u8], p: PlaneNumbers, b: Block, d: Shift, centre: &[u8], ceiling: u32) -> u32
     requires { ⌜ Fits (now bytes) p ⌝ }
     requires { ⌜ Lies b (p .columns) (p .rows) ⌝ }
     requires { ⌜ Short d ⌝ }
     requires { ⌜ p .columns * p .rows ≤ length (now centre) ⌝ }
-    ensures { λ r. ⌜ r ≡ lumaCost (now (centre .entry)) (now (bytes .entry)) p b d ⌝ }
+    ensures { λ r. ⌜ Capped ceiling (lumaCost (now (centre .entry)) (now (bytes .entry)) p b d) r ⌝ }
 {
     let x = b.x;
     let y = b.y;
@@ -207,21 +207,35 @@ fn edge_sad(bytes: &[u8], p: PlaneNumbers, b: Block, d: Shift, centre: &[u8]) ->
     let mut sum: u32 = 0;
     let mut r = 0;
     while r < high {
+        if ceiling <= sum {
+            return sum;
+        }
         sum += span_sad(bytes, p, x, y + r, n, d, centre);
         r += 1;
     }
     sum
 }
 
-// The SAD of two blocks of 16 by 16: two rows a turn.
-fn inner_sad(a: &[u8], at: usize, stride: usize, b: &[u8], from: usize, across: usize) -> u32
+// The SAD of two blocks of 16 by 16, two rows a turn, or a part of it that has reached the ceiling.
+fn inner_sad(
+    a: &[u8],
+    at: usize,
+    stride: usize,
+    b: &[u8],
+    from: usize,
+    across: usize,
+    ceiling: u32,
+) -> u32
     requires { ⌜ (at + 15 * stride + 16 ≤ length (now a)) × (from + 15 * across + 16 ≤ length (now b)) ⌝ }
-    ensures { λ r. ⌜ r ≡ sumBelow (λ y. sumBelow (λ k. distance (getD (now (a .entry)) (at + y * stride + k) 0)
-        (getD (now (b .entry)) (from + y * across + k) 0)) 16) 16 ⌝ }
+    ensures { λ r. ⌜ Capped ceiling (sumBelow (λ y. sumBelow (λ k. distance (getD (now (a .entry)) (at + y * stride + k) 0)
+        (getD (now (b .entry)) (from + y * across + k) 0)) 16) 16) r ⌝ }
 {
     let mut sum: u32 = 0;
     let mut r = 0;
     while r < 16 {
+        if ceiling <= sum {
+            return sum;
+        }
         let i = at + r * stride;
         let j = from + r * across;
         let k = i + stride;
@@ -243,10 +257,11 @@ fn placed_sad(
     columns: usize,
     x: usize,
     y: usize,
+    ceiling: u32,
 ) -> u32
     requires { ⌜ (start + (top + 15) * stride + left + 15 < length (now bytes)) × ((y + 15) * columns + x + 15 < length (now centre)) ⌝ }
-    ensures { λ r. ⌜ r ≡ sumBelow (λ j. sumBelow (λ k. distance (getD (now (centre .entry)) ((y + j) * columns + (x + k)) 0) (getD (now (bytes .entry))
-        (start + (top + j) * stride + (left + k)) 0)) 16) 16 ⌝ }
+    ensures { λ r. ⌜ Capped ceiling (sumBelow (λ j. sumBelow (λ k. distance (getD (now (centre .entry)) ((y + j) * columns + (x + k)) 0) (getD (now (bytes .entry))
+        (start + (top + j) * stride + (left + k)) 0)) 16) 16) r ⌝ }
 {
     inner_sad(
         centre,
@@ -255,16 +270,17 @@ fn placed_sad(
         bytes,
         start + top * stride + left,
         stride,
+        ceiling,
     )
 }
 
 // The SAD of a block of 16 by 16: in bounds, row by row of 16; else by samples.
-fn square_sad(bytes: &[u8], p: PlaneNumbers, b: Block, d: Shift, centre: &[u8]) -> u32
+fn square_sad(bytes: &[u8], p: PlaneNumbers, b: Block, d: Shift, centre: &[u8], ceiling: u32) -> u32
     requires { ⌜ Fits (now bytes) p ⌝ }
     requires { ⌜ (b .columns ≡ 16) × (b .rows ≡ 16) × Lies b (p .columns) (p .rows) ⌝ }
     requires { ⌜ Short d ⌝ }
     requires { ⌜ p .columns * p .rows ≤ length (now centre) ⌝ }
-    ensures { λ r. ⌜ r ≡ lumaCost (now (centre .entry)) (now (bytes .entry)) p b d ⌝ }
+    ensures { λ r. ⌜ Capped ceiling (lumaCost (now (centre .entry)) (now (bytes .entry)) p b d) r ⌝ }
 {
     let left = edge(b.x, d.dx, p.columns);
     let right = edge(b.x + 15, d.dx, p.columns);
@@ -282,24 +298,33 @@ fn square_sad(bytes: &[u8], p: PlaneNumbers, b: Block, d: Shift, centre: &[u8]) 
                 p.columns,
                 b.x,
                 b.y,
+                ceiling,
             );
         }
     }
-    edge_sad(bytes, p, b, d, centre)
+    edge_sad(bytes, p, b, d, centre, ceiling)
 }
 
-// The SAD of a block of the centre's plane, which stands packed, and the displaced block of another frame's.
-pub(crate) fn block_sad(bytes: &[u8], p: PlaneNumbers, b: Block, d: Shift, centre: &[u8]) -> u32
+// The SAD of a block of the centre's plane, which stands packed, and the displaced block of another frame's, where it is below the
+// ceiling; else a number that is not.
+pub(crate) fn block_sad(
+    bytes: &[u8],
+    p: PlaneNumbers,
+    b: Block,
+    d: Shift,
+    centre: &[u8],
+    ceiling: u32,
+) -> u32
     requires { ⌜ Fits (now bytes) p ⌝ }
     requires { ⌜ Lies b (p .columns) (p .rows) ⌝ }
     requires { ⌜ Short d ⌝ }
     requires { ⌜ p .columns * p .rows ≤ length (now centre) ⌝ }
-    ensures { λ r. ⌜ r ≡ lumaCost (now (centre .entry)) (now (bytes .entry)) p b d ⌝ }
+    ensures { λ r. ⌜ Capped ceiling (lumaCost (now (centre .entry)) (now (bytes .entry)) p b d) r ⌝ }
 {
     if b.columns == 16 {
         if b.rows == 16 {
-            return square_sad(bytes, p, b, d, centre);
+            return square_sad(bytes, p, b, d, centre, ceiling);
         }
     }
-    edge_sad(bytes, p, b, d, centre)
+    edge_sad(bytes, p, b, d, centre, ceiling)
 }

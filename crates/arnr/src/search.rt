@@ -12,6 +12,9 @@ ghost use Rattle.laws.specs.Best.{betterOf};
 ghost use Rattle.denoiser.specs.Search.{stepTo, neighbourOf, stepBest, blockSearch};
 ghost use Rattle.denoiser.specs.Internal.{Fits, Reach, Short, Lies, Measured, lumaCost};
 
+// Above every SAD of a block.
+const NO_CEILING: u32 = 65281;
+
 // The better of the best so far and the displacement d: only a strictly smaller SAD replaces the best.
 fn try_at(bytes: &[u8], p: PlaneNumbers, b: Block, centre: &[u8], best: Motion, d: Shift) -> Motion
     requires { ⌜ Fits (now bytes) p ⌝ }
@@ -22,7 +25,7 @@ fn try_at(bytes: &[u8], p: PlaneNumbers, b: Block, centre: &[u8], best: Motion, 
     ensures { λ r. ⌜ Measured (lumaCost (now (centre .entry)) (now (bytes .entry)) p b) (betterOf (lumaCost (now (centre .entry)) (now (bytes .entry)) p b)
         (best .shift) d) r ⌝ }
 {
-    let sad = sad::block_sad(bytes, p, b, d, centre);
+    let sad = sad::block_sad(bytes, p, b, d, centre, best.sad);
     if sad < best.sad {
         Motion { shift: d, sad: sad }
     } else {
@@ -78,7 +81,7 @@ pub(crate) fn block_search(bytes: &[u8], p: PlaneNumbers, b: Block, centre: &[u8
         (blockSearch (lumaCost (now (centre .entry)) (now (bytes .entry)) p b)) r ⌝ }
 {
     let none = Shift { dx: 0, dy: 0 };
-    let sad = sad::block_sad(bytes, p, b, none, centre);
+    let sad = sad::block_sad(bytes, p, b, none, centre, NO_CEILING);
     let m0 = Motion {
         shift: none,
         sad: sad,

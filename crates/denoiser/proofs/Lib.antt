@@ -14,4 +14,5 @@ pub mod Demands
 pub mod Blends
 pub mod Makes
 pub mod Answers
+pub mod Ceilings
 pub mod Claims

@@ -222,3 +222,9 @@ pub record Made (q : Request) (lent : Held) (count : ℕ) (held : Held) : Type 0
   pub output : held .output ≡ filled (sceneOf q) (samplesOf arnrRule q) (lent .output)
   pub sums : held .sums ≡ cond (cropped q) (lent .sums) (filled (sceneOf q) (sumAt (arnrRule (sceneOf q)) (windowOf q)) (lent .sums))
   pub weights : held .weights ≡ cond (cropped q) (lent .weights) (filled (sceneOf q) (totalAt (arnrRule (sceneOf q)) (windowOf q)) (lent .weights))
+
+-- what measures a cost up to a ceiling: the cost where it is below, else a part of it that is not
+pub record Capped (ceiling cost r : ℕ) : Type 0 where
+  pub exact : r < ceiling → r ≡ cost
+  pub most : r ≤ cost
+  pub small : r ≤ 65280

@@ -11,6 +11,7 @@ use Rattle.prediction.specs.Samples.{distance}
 use Rattle.denoiser.specs.Internal.{rowDistance, rowsDistance}
 use Rattle.laws.specs.Sums.{sumBelow, sum-none, sum-more, sum-same, sum-plus}
 use Rattle.laws.specs.Slices.{mid-at, mid-long}
+use Rattle.denoiser.proofs.Ceilings.{sum-part, whole, cut-off}
 use Rattle.arnr.proofs.sad.inner_sad.Statement.{statement}
 use Rattle.arnr.proofs.sad.inner_sad.Tie as tie
 
@@ -57,11 +58,11 @@ rows-more a at stride b from across r s v e f =
     next = rw (i-is, j-is)
 
 abbrev Inv-loop : tie.InvT-loop
-Inv-loop a at stride b from across sum₀ r₀ sum r =
+Inv-loop a at stride b from across ceiling sum₀ r₀ sum r =
     (r ≤ 16) × (r % 2 ≡ 0) × (sum ≡ sumBelow (row a at stride b from across) r) × (sum ≤ 4080 * r)
 
 abbrev μ-loop : tie.MeasureT-loop
-μ-loop a at stride b from across sum₀ r₀ sum r = 16 - r
+μ-loop a at stride b from across ceiling sum₀ r₀ sum r = 16 - r
 
 -- in the loop both rows end within their lists
 both-end : (at stride r n : ℕ) → at + 15 * stride + 16 ≤ n → r % 2 ≡ 0 → r < 16 → at + r * stride + stride + 16 ≤ n
@@ -84,25 +85,25 @@ loop-holds : tie.Need-loop-holds Inv-loop μ-loop
 loop-holds c = (search needs, omega arith, sum-none _, search needs)
 
 mul-i : tie.Need-mul-i Inv-loop μ-loop
-mul-i c = omega (arith, in-a (c .before) (c .loop-test .taken))
+mul-i c = omega (arith, in-a (c .before .before) (c .before .loop-test .taken))
 
 add-i : tie.Need-add-i Inv-loop μ-loop
-add-i c = omega (arith, in-a (c .before) (c .loop-test .taken))
+add-i c = omega (arith, in-a (c .before .before) (c .before .loop-test .taken))
 
 mul-j : tie.Need-mul-j Inv-loop μ-loop
-mul-j c = omega (arith, in-b (c .before) (c .loop-test .taken))
+mul-j c = omega (arith, in-b (c .before .before) (c .before .loop-test .taken))
 
 add-j : tie.Need-add-j Inv-loop μ-loop
-add-j c = omega (arith, in-b (c .before) (c .loop-test .taken))
+add-j c = omega (arith, in-b (c .before .before) (c .before .loop-test .taken))
 
 add-k : tie.Need-add-k Inv-loop μ-loop
-add-k c = omega (arith, in-a (c .before) (c .loop-test .taken))
+add-k c = omega (arith, in-a (c .before .before) (c .before .loop-test .taken))
 
 add-l : tie.Need-add-l Inv-loop μ-loop
-add-l c = omega (arith, in-b (c .before) (c .loop-test .taken))
+add-l c = omega (arith, in-b (c .before .before) (c .before .loop-test .taken))
 
 add-two-rows-sad : tie.Need-add-two-rows-sad Inv-loop μ-loop
-add-two-rows-sad c = omega (arith, in-a (c .before) (c .loop-test .taken))
+add-two-rows-sad c = omega (arith, in-a (c .before .before) (c .before .loop-test .taken))
 
 sub-two-rows-sad : tie.Need-sub-two-rows-sad Inv-loop μ-loop
 sub-two-rows-sad c = search needs
@@ -111,10 +112,10 @@ part-two-rows-sad-start : tie.Need-part-two-rows-sad-start Inv-loop μ-loop
 part-two-rows-sad-start c = search needs
 
 part-two-rows-sad-end : tie.Need-part-two-rows-sad-end Inv-loop μ-loop
-part-two-rows-sad-end c = omega (arith, in-a (c .before) (c .loop-test .taken))
+part-two-rows-sad-end c = omega (arith, in-a (c .before .before) (c .before .loop-test .taken))
 
 add-two-rows-sad-2 : tie.Need-add-two-rows-sad-2 Inv-loop μ-loop
-add-two-rows-sad-2 c = omega (arith, in-b (c .before .before) (c .before .loop-test .taken))
+add-two-rows-sad-2 c = omega (arith, in-b (c .before .before .before) (c .before .before .loop-test .taken))
 
 sub-two-rows-sad-2 : tie.Need-sub-two-rows-sad-2 Inv-loop μ-loop
 sub-two-rows-sad-2 c = search needs
@@ -123,10 +124,10 @@ part-two-rows-sad-start-2 : tie.Need-part-two-rows-sad-start-2 Inv-loop μ-loop
 part-two-rows-sad-start-2 c = search needs
 
 part-two-rows-sad-end-2 : tie.Need-part-two-rows-sad-end-2 Inv-loop μ-loop
-part-two-rows-sad-end-2 c = omega (arith, in-b (c .before .before) (c .before .loop-test .taken))
+part-two-rows-sad-end-2 c = omega (arith, in-b (c .before .before .before) (c .before .before .loop-test .taken))
 
 add-two-rows-sad-3 : tie.Need-add-two-rows-sad-3 Inv-loop μ-loop
-add-two-rows-sad-3 c = omega (arith, in-a (c .before .before .before) (c .before .before .loop-test .taken))
+add-two-rows-sad-3 c = omega (arith, in-a (c .before .before .before .before) (c .before .before .before .loop-test .taken))
 
 sub-two-rows-sad-3 : tie.Need-sub-two-rows-sad-3 Inv-loop μ-loop
 sub-two-rows-sad-3 c = search needs
@@ -135,10 +136,10 @@ part-two-rows-sad-start-3 : tie.Need-part-two-rows-sad-start-3 Inv-loop μ-loop
 part-two-rows-sad-start-3 c = search needs
 
 part-two-rows-sad-end-3 : tie.Need-part-two-rows-sad-end-3 Inv-loop μ-loop
-part-two-rows-sad-end-3 c = omega (arith, in-a (c .before .before .before) (c .before .before .loop-test .taken))
+part-two-rows-sad-end-3 c = omega (arith, in-a (c .before .before .before .before) (c .before .before .before .loop-test .taken))
 
 add-two-rows-sad-4 : tie.Need-add-two-rows-sad-4 Inv-loop μ-loop
-add-two-rows-sad-4 c = omega (arith, in-b (c .before .before .before .before) (c .before .before .before .loop-test .taken))
+add-two-rows-sad-4 c = omega (arith, in-b (c .before .before .before .before .before) (c .before .before .before .before .loop-test .taken))
 
 sub-two-rows-sad-4 : tie.Need-sub-two-rows-sad-4 Inv-loop μ-loop
 sub-two-rows-sad-4 c = search needs
@@ -147,15 +148,15 @@ part-two-rows-sad-start-4 : tie.Need-part-two-rows-sad-start-4 Inv-loop μ-loop
 part-two-rows-sad-start-4 c = search needs
 
 part-two-rows-sad-end-4 : tie.Need-part-two-rows-sad-end-4 Inv-loop μ-loop
-part-two-rows-sad-end-4 c = omega (arith, in-b (c .before .before .before .before) (c .before .before .before .loop-test .taken))
+part-two-rows-sad-end-4 c = omega (arith, in-b (c .before .before .before .before .before) (c .before .before .before .before .loop-test .taken))
 
 two-rows-sad-requires : tie.Need-two-rows-sad-requires Inv-loop μ-loop
 two-rows-sad-requires c κs =
-    let l = c .before .before .before .before .before in
+    let l = c .before .before .before .before .before .before in
     let s = l .before .before .before in
     let r = l .loop .r in
-    let e = in-a (c .before .before .before .before .before) (c .before .before .before .before .loop-test .taken) in
-    let f = in-b (c .before .before .before .before .before) (c .before .before .before .before .loop-test .taken) in
+    let e = in-a (c .before .before .before .before .before .before) (c .before .before .before .before .before .loop-test .taken) in
+    let f = in-b (c .before .before .before .before .before .before) (c .before .before .before .before .before .loop-test .taken) in
     let i : s .args .at + r * s .args .stride + 16 ≤ length (s .args .a .now) = omega (arith, e) in
     let j : s .args .from + r * s .args .across + 16 ≤ length (s .args .b .now) = omega (arith, f) in
     simp (
@@ -167,7 +168,7 @@ two-rows-sad-requires c κs =
     ) (refl, refl, refl, refl)
 
 add-sum : tie.Need-add-sum Inv-loop μ-loop
-add-sum c = omega (arith, c .before .before .before .before .before .before .loop .inv .3, c .two-rows-sad .ensures .1)
+add-sum c = omega (arith, c .before .before .before .before .before .before .before .loop .inv .3, c .two-rows-sad .ensures .1)
 
 add-r : tie.Need-add-r Inv-loop μ-loop
 add-r c = search needs
@@ -177,9 +178,9 @@ loop-less c = search needs
 
 loop-again : tie.Need-loop-again Inv-loop μ-loop
 loop-again c =
-    let l = c .before .before .before .before .before .before in
+    let l = c .before .before .before .before .before .before .before in
     let s = l .before .before .before .args in (
-      omega (arith, c .before .before .before .before .before .loop-test .taken, l .loop .inv .1),
+      omega (arith, c .before .before .before .before .before .before .loop-test .taken, l .loop .inv .1),
       omega (arith, l .loop .inv .1),
       rows-more (s .a .now) (s .at) (s .stride) (s .b .now) (s .from) (s .across) (l .loop .r) (l .loop .sum) (c .two-rows-sad .result) (l .loop .inv .2)
           (simp add-sub-cancel-left at (c .two-rows-sad .ensures .0)),
@@ -188,8 +189,16 @@ loop-again c =
 
 returns : tie.Need-returns Inv-loop μ-loop
 returns c =
-    let r-is : c .before .loop .r ≡ 16 = omega arith in
-    rw r-is at (c .before .loop .inv .2)
+    let l = c .before .before .loop in
+    let s = c .before .before .before .before .before .args in
+    let part = sum-part (row (s .a .now) (s .at) (s .stride) (s .b .now) (s .from) (s .across)) (l .r) 16 (l .inv .0) in
+    cut-off (s .ceiling) _ (l .sum) (omega (arith, l .inv .0, l .inv .3)) (c .if1 .taken) (omega (arith, part, l .inv .2))
+
+returns-2 : tie.Need-returns-2 Inv-loop μ-loop
+returns-2 c =
+    let l = c .before .loop in
+    let r-is : l .r ≡ 16 = omega arith in
+    whole (c .before .before .before .before .args .ceiling) _ (l .sum) (omega (arith, l .inv .3)) (rw r-is at (l .inv .2))
 
 pub inner-sad-spec : {M : Type 1} → statement M
 inner-sad-spec =
@@ -198,6 +207,7 @@ inner-sad-spec =
     Inv-loop
     μ-loop
     loop-holds
+    returns
     mul-i
     add-i
     mul-j
@@ -225,4 +235,4 @@ inner-sad-spec =
     add-r
     loop-less
     loop-again
-    returns)
+    returns-2)

@@ -6,6 +6,7 @@ use Prim.Native.Nat.{ℕ, _+_, _*_, _<_}
 use lib.ListN.{getD}
 use Rattle.prediction.specs.Samples.{distance}
 use Rattle.laws.specs.Sums.{sumBelow, sum-same}
+use Rattle.denoiser.proofs.Ceilings.{same-cost}
 use borrow.Author.Needs.{needs}
 use Rattle.arnr.proofs.sad.placed_sad.Statement.{statement}
 use Rattle.arnr.proofs.sad.placed_sad.Tie as tie
@@ -37,10 +38,11 @@ inner-sad-requires c κs = search needs
 returns : tie.Need-returns
 returns c =
     let a = c .before .before .before .args in
-    c .inner-sad .ensures ∙
-    sum-same _ _ 16 (λ j h. sum-same _ _ 16 (λ k l.
+    same-cost (a .ceiling) _ _ _
+    (sum-same _ _ 16 (λ j h. sum-same _ _ 16 (λ k l.
     ap (λ (t : ℕ). distance (getD (a .centre .now) t 0) (getD (a .bytes .now) (a .start + a .top * a .stride + a .left + j * a .stride + k) 0)) (moved-2 (a .y) (a .columns) (a .x) j k)
-    ∙ ap (λ (t : ℕ). distance (getD (a .centre .now) ((a .y + j) * a .columns + (a .x + k)) 0) (getD (a .bytes .now) t 0)) (moved (a .start) (a .top) (a .stride) (a .left) j k)))
+    ∙ ap (λ (t : ℕ). distance (getD (a .centre .now) ((a .y + j) * a .columns + (a .x + k)) 0) (getD (a .bytes .now) t 0)) (moved (a .start) (a .top) (a .stride) (a .left) j k))))
+    (c .inner-sad .ensures)
 
 pub placed-sad-spec : {M : Type 1} → statement M
 placed-sad-spec =

@@ -15,6 +15,7 @@ use Rattle.denoiser.specs.Search.{sadOf}
 use Rattle.denoiser.specs.Internal.{Lies, packedPlane, lumaCost}
 use Rattle.denoiser.proofs.Planes.{sample-below, row-below, luma-at, displaced-at, short-fits}
 use Rattle.laws.specs.Sums.{sumBelow, sum-same}
+use Rattle.denoiser.proofs.Ceilings.{same-cost}
 use borrow.Author.Needs.{needs}
 use Rattle.arnr.proofs.sad.square_sad.Statement.{statement}
 use Rattle.arnr.proofs.sad.square_sad.Tie as tie
@@ -106,7 +107,9 @@ returns c =
     let u = c .before .before .before .edge4 .ensures ∙ ap (λ (v : ℤ). nearestIn (s .args .p .rows) (pos (s .args .b .y + 15) +ℤ v)) (toZ-ofZ (short-fits (s .args .d) (s .pre .1 .1 .0) .1)) in
     let e : c .before .before .before .before .before .before .before .before .before .before .before .edge .result + 15 ≡ c .before .before .before .before .before .before .before .before .edge2 .result = c .before .before .if1 .taken in
     let g : c .before .before .before .before .before .before .edge3 .result + 15 ≡ c .before .before .before .edge4 .result = c .before .if2 .taken in
-    c .placed-sad .ensures ∙ square (s .args .bytes .now) (s .args .centre .now) (s .args .p) (s .args .b) (s .args .d) _ _ l (e ∙ r) t (g ∙ u) (s .pre .1 .0 .0) (s .pre .1 .0 .1) (s .pre .1 .0 .2)
+    same-cost (s .args .ceiling) _ _ _
+    (square (s .args .bytes .now) (s .args .centre .now) (s .args .p) (s .args .b) (s .args .d) _ _ l (e ∙ r) t (g ∙ u) (s .pre .1 .0 .0) (s .pre .1 .0 .1) (s .pre .1 .0 .2))
+    (c .placed-sad .ensures)
 
 edge-sad-requires : tie.Need-edge-sad-requires
 edge-sad-requires c κs = search needs

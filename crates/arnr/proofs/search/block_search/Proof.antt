@@ -30,7 +30,10 @@ block-sad-requires : tie.Need-block-sad-requires
 block-sad-requires c κs = search needs
 
 round-requires : tie.Need-round-requires
-round-requires c κs = search needs
+round-requires c κs =
+    let s = c .before .before .before in
+    let e = c .block-sad .ensures in
+    (s .pre .0, (s .pre .1 .0, ((omega arith, search needs), (s .pre .1 .1, e .exact (omega (arith, e .small))))))
 
 round-requires-2 : tie.Need-round-requires-2
 round-requires-2 c κs =

@@ -4,21 +4,21 @@ use Prim.Native.Nat.{ℕ, _<_, _≤_}
 use Rattle.laws.specs.Best.{betterOf, better-less, better-not}
 use Rattle.denoiser.specs.declared.Shift.{Shift}
 use Rattle.denoiser.specs.declared.Motion.{Motion}
-use Rattle.denoiser.specs.Internal.{Measured, lumaCost}
+use Rattle.denoiser.specs.Internal.{Measured, lumaCost, Capped}
 use native.Mathlib.Omega.{arith}
 use borrow.Author.Needs.{needs}
 use Rattle.arnr.proofs.search.try_at.Statement.{statement}
 use Rattle.arnr.proofs.search.try_at.Tie as tie
 
-module _ (cost : Shift → ℕ) (best : Motion) (d : Shift) (sad : ℕ) (is : sad ≡ cost d) (known : best .sad ≡ cost (best .shift)) where
+module _ (cost : Shift → ℕ) (best : Motion) (d : Shift) (sad : ℕ) (is : Capped (best .sad) (cost d) sad) (known : best .sad ≡ cost (best .shift)) where
   better : sad < best .sad → Measured cost (betterOf cost (best .shift) d) (record { shift = d; sad = sad })
   better h =
-      let e = better-less cost (best .shift) d (omega arith) in
-      record { shift = e; sad = is ∙ ap cost e }
+      let e = better-less cost (best .shift) d (omega (arith, is .exact h)) in
+      record { shift = e; sad = is .exact h ∙ ap cost e }
 
   worse : best .sad ≤ sad → Measured cost (betterOf cost (best .shift) d) best
   worse h =
-      let e = better-not cost (best .shift) d (omega arith) in
+      let e = better-not cost (best .shift) d (omega (arith, is .most)) in
       record { shift = e; sad = known ∙ ap cost e }
 
 block-sad-requires : tie.Need-block-sad-requires
