@@ -131,8 +131,15 @@ fn sads() {
     measure("block_sad_16x16", || _ = ours(), || _ = rust());
     for (name, row, col) in [("inside", 12, -8), ("across the edge", -520, 12)] {
         let mv = Mv { row, col };
-        let ours = || black_box(model::mb_luma_sad_at_whole_mv(luma, (10, 8), black_box(&one), black_box(mv)).sad);
-        let rust = || black_box(original::mb_luma_sad_at_whole_mv(same, 10, 8, black_box(&one), black_box(mv)));
+        // nothing of the call may be a constant on either side
+        let ours = || {
+            let mb = (black_box(10), black_box(8));
+            black_box(model::mb_luma_sad_at_whole_mv(*black_box(&luma), mb, black_box(&one), black_box(mv)).sad)
+        };
+        let rust = || {
+            let (col, row) = (black_box(10), black_box(8));
+            black_box(original::mb_luma_sad_at_whole_mv(*black_box(&same), col, row, black_box(&one), black_box(mv)))
+        };
         assert_eq!(ours(), rust());
         measure(&format!("SAD at a whole vector, {name}"), || _ = ours(), || _ = rust());
         halos(&plane, name, Mv { row: row * 2 + 2, col: col * 2 + 4 });
