@@ -260,8 +260,8 @@ fn placed_sad(
     ceiling: u32,
 ) -> u32
     requires { ⌜ (start + (top + 15) * stride + left + 15 < length (now bytes)) × ((y + 15) * columns + x + 15 < length (now centre)) ⌝ }
-    ensures { λ r. ⌜ Capped ceiling (sumBelow (λ j. sumBelow (λ k. distance (getD (now (centre .entry)) ((y + j) * columns + (x + k)) 0) (getD (now (bytes .entry))
-        (start + (top + j) * stride + (left + k)) 0)) 16) 16) r ⌝ }
+    ensures { λ r. ⌜ Capped ceiling (sumBelow (λ j. sumBelow (λ k. distance (getD (now (centre .entry)) ((y + j) * columns + (x + k)) 0)
+        (getD (now (bytes .entry)) (start + (top + j) * stride + (left + k)) 0)) 16) 16) r ⌝ }
 {
     inner_sad(
         centre,
