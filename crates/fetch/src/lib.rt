@@ -220,6 +220,69 @@ fn square(
     }
 }
 
+// Row r of a halo that lies in the plane.
+fn halo_row(
+    out: &mut [u8; 441],
+    r: usize,
+    plane: &[u8],
+    stride: usize,
+    width: usize,
+    height: usize,
+    x: usize,
+    y: usize,
+)
+    requires { ⌜ (r < 21) × (x < 32768) × (y < 32768) × Inside 21 4098 width height x y ⌝ }
+    requires { ⌜ (height - 1) * stride + width ≤ length (now plane) ⌝ }
+    requires { ⌜ Filling (entry 21 4098 (lumaPlane (now plane) stride width height) x y) 441 (now out) (r * 21) ⌝ }
+    ensures { λ _. ⌜ Filling (entry 21 4098 (lumaPlane (now (plane .entry)) stride width height) x y) 441 (now (out .exit)) (r * 21 + 21) ⌝ }
+{
+    let from = (y - 4098 + r) * stride + (x - 4098);
+    for k in 0..21 {
+        out[r * 21 + k] = plane[from + k];
+    }
+}
+
+// A halo that lies in the plane: rows of a size that the compiler knows, into an array of its own.
+fn halo_inside(
+    plane: &[u8],
+    stride: usize,
+    width: usize,
+    height: usize,
+    x: usize,
+    y: usize,
+) -> [u8; 441]
+    requires { ⌜ (x < 32768) × (y < 32768) × Inside 21 4098 width height x y ⌝ }
+    requires { ⌜ (height - 1) * stride + width ≤ length (now plane) ⌝ }
+    ensures { λ r. ⌜ r ≡ tabulate 441 (entry 21 4098 (lumaPlane (now (plane .entry)) stride width height) x y) ⌝ }
+{
+    let mut out = [0u8; 441];
+    for r in 0..21 {
+        halo_row(&mut out, r, plane, stride, width, height, x, y);
+    }
+    out
+}
+
+// The halo from column x - 4098 and row y - 4098 on.
+fn halo_at(
+    plane: &[u8],
+    stride: usize,
+    width: usize,
+    height: usize,
+    x: usize,
+    y: usize,
+) -> [u8; 441]
+    requires { ⌜ (0 < width) × (0 < height) × (x < 32768) × (y < 32768) ⌝ }
+    requires { ⌜ (height - 1) * stride + width ≤ length (now plane) ⌝ }
+    ensures { λ r. ⌜ r ≡ tabulate 441 (entry 21 4098 (lumaPlane (now (plane .entry)) stride width height) x y) ⌝ }
+{
+    if lies_inside(21, 4098, width, height, x, y) {
+        return halo_inside(plane, stride, width, height, x, y);
+    }
+    let mut halo = [0u8; 441];
+    square(&mut halo, 21, 4098, plane, stride, width, height, x, y);
+    halo
+}
+
 // The macroblock at a pixel origin, moved by the whole offset of a vector in eighths.
 pub fn fetch_luma_mb_whole_pixel(
     plane: &[u8],
@@ -276,18 +339,7 @@ pub fn fetch_luma_mb_halo(
     if let FetchAnswer::Fetched = answer {
         let column = moved(x, mv.col);
         let row = moved(y, mv.row);
-        let mut halo = [0u8; 441];
-        square(
-            &mut halo,
-            21,
-            4098,
-            plane,
-            stride,
-            width,
-            height,
-            column,
-            row,
-        );
+        let halo = halo_at(plane, stride, width, height, column, row);
         FetchedHalo {
             answer: answer,
             halo: halo,

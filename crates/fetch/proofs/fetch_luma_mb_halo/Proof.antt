@@ -35,28 +35,25 @@ moved-requires c κs = known (c .before) .left
 moved-requires-2 : tie.Need-moved-requires-2
 moved-requires-2 c κs = known (c .before .before .before) .top
 
-slice-aggregate-square : tie.Need-slice-aggregate-square
-slice-aggregate-square c = search needs
-
-square-requires : tie.Need-square-requires
-square-requires c κs =
-    let k = known (c .before .before .before .before .before) in
-    ((omega arith, k .wide, k .high, c .before .before .before .moved .ensures .1, c .before .moved2 .ensures .1, search needs), k .long)
+halo-at-requires : tie.Need-halo-at-requires
+halo-at-requires c κs =
+    let k = known (c .before .before .before .before) in
+    ((k .wide, k .high, c .before .before .moved .ensures .1, c .moved2 .ensures .1), k .long)
 
 returns : tie.Need-returns
 returns c =
-    let told = c .before .before .before .before .before .before .before in
+    let told = c .before .before .before .before .before in
     let f = told .before .before .fetch-answer in
     let s = told .before .before .before .before .args in
-    let given = c .before .before .before .before .before .before .struct-told .given in
+    let given = c .before .before .before .before .struct-told .given in
     let fr : SFits w16 (s .mv .row) = search needs in
     let fc : SFits w16 (s .mv .col) = search needs in
     let p = lumaPlane (s .plane .now) (s .stride) (s .width) (s .height) in
-    let ec = c .before .before .before .before .before .moved .ensures .0 ∙ ap (λ (z : ℤ). s .x + biasedBy z) (toZ-ofZ fc) in
-    let er = c .before .before .before .moved2 .ensures .0 ∙ ap (λ (z : ℤ). s .y + biasedBy z) (toZ-ofZ fr) in
+    let ec = c .before .before .before .moved .ensures .0 ∙ ap (λ (z : ℤ). s .x + biasedBy z) (toZ-ofZ fc) in
+    let er = c .before .moved2 .ensures .0 ∙ ap (λ (z : ℤ). s .y + biasedBy z) (toZ-ofZ fr) in
     fetch-accepted (fetchLines p (s .x) (s .y)) (f .result) (haloOf (offsetBy (s .x) (s .y) (s .mv) (sampleAt p))) 441 (f .ensures)
-    (c .before .square .last .0) (told .enum-told .given .1)
-    (c .before .square .ensures ∙ square-is 21 2 p (s .x) (s .y) _ _ (s .mv) fr fc ec er)
+    (c .halo-at .result) (told .enum-told .given .1)
+    (c .halo-at .ensures ∙ square-is 21 2 p (s .x) (s .y) _ _ (s .mv) fr fc ec er)
 
 returns-2 : tie.Need-returns-2
 returns-2 c =
@@ -73,7 +70,6 @@ fetch-luma-mb-halo-spec =
     enum-told
     moved-requires
     moved-requires-2
-    slice-aggregate-square
-    square-requires
+    halo-at-requires
     returns
     returns-2)
