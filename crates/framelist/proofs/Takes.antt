@@ -29,7 +29,7 @@ take-held fs count n long e = by-order (decLt count arrayRecords)
 
 -- one record more
 pub more-listed : (numbers : List ℕ) (n : ℕ) (fs : List Frame) (f : Frame) → n < arrayRecords → f ≡ frameAt numbers n → Listed numbers n fs → Listed numbers (n + 1) (set fs n f)
-more-listed numbers n fs f room is l = record { long = length-set fs n f ∙ l .long; at = λ g h. by-order g h (decLt g n) }
+more-listed numbers n fs f room is l = record { long = length-set fs n f ∙ l .long; at = λ g h. by-order g h (decLt g n); past = λ g h k. getD-set-other fs n g f zeroFrame (λ e. omega (arith, h, e)) ∙ l .past g (omega (arith, h)) k }
   where
     by-order : (g : ℕ) → g < n + 1 → Dec (g < n) → getD (set fs n f) g zeroFrame ≡ frameAt numbers g
     by-order g h (yes m) = getD-set-other fs n g f zeroFrame (λ e. omega (arith, m, e)) ∙ l .at g m

@@ -1,7 +1,7 @@
 -- The array of records, and the records of frames that are given as numbers. Assumes nothing.
 use mathlib.Core.Path.{_≡_}
 use mathlib.Core.List.{List}
-use Prim.Native.Nat.{ℕ, suc, _<_}
+use Prim.Native.Nat.{ℕ, suc, _<_, _≤_}
 use lib.ListN.{length, getD}
 use Rattle.window.specs.declared.Frame.{Frame}
 use Rattle.window.specs.Frames.{frameAt}
@@ -11,7 +11,8 @@ use Rattle.altref.specs.Records.{maxFrames, zeroFrame}
 abbrev pub arrayRecords : ℕ
 arrayRecords = suc maxFrames
 
--- the array's first n records are the first n frames of the numbers
+-- the array's first n records are the first n frames of the numbers; the others are zeros
 pub record Listed (numbers : List ℕ) (n : ℕ) (fs : List Frame) : Type 0 where
   pub long : length fs ≡ arrayRecords
   pub at : (g : ℕ) → g < n → getD fs g zeroFrame ≡ frameAt numbers g
+  pub past : (g : ℕ) → n ≤ g → g < arrayRecords → getD fs g zeroFrame ≡ zeroFrame

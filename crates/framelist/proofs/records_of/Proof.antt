@@ -2,7 +2,7 @@
 use mathlib.Core.Path.{_≡_, refl, sym, ap, _∙_}
 use Prim.Native.Nat.{ℕ, _-_, _<_, _≤_, min}
 use native.Mathlib.Omega.{arith}
-use lib.ListN.{length-replicate}
+use lib.ListN.{length-replicate, getD-replicate}
 use borrow.Author.Needs.{needs}
 use Rattle.window.specs.declared.Frame.{Frame}
 use Rattle.altref.specs.Records.{zeroFrame}
@@ -24,7 +24,14 @@ held-requires : tie.Need-held-requires Inv-loop μ-loop
 held-requires c κs = search needs
 
 loop-holds : tie.Need-loop-holds Inv-loop μ-loop
-loop-holds c = (record { long = length-replicate {A = Frame} arrayRecords zeroFrame; at = λ g h. absurd (omega (arith, h)) }, omega arith)
+loop-holds c = (
+  record {
+    long = length-replicate {A = Frame} arrayRecords zeroFrame;
+    at = λ g h. absurd (omega (arith, h));
+    past = λ g h k. getD-replicate {A = Frame} arrayRecords g zeroFrame zeroFrame k;
+  },
+  omega arith,
+)
 
 frame-at-requires : tie.Need-frame-at-requires Inv-loop μ-loop
 frame-at-requires c κs = search needs
