@@ -3,8 +3,8 @@ use mathlib.Core.Path.{_≡_}
 use Rattle.denoiser.specs.declared.BuildAnswer.{BuildAnswer}
 use Rattle.denoiser.specs.Demand.{Held}
 use Rattle.denoiser.specs.Build.{BuildInput, BuildIs, buildOutcome}
-use Rattle.model.specs.declared.answers.Build.{Build}
-use Rattle.model.specs.Answers.{buildNumbers}
+use Rattle.numbers.specs.declared.answers.Build.{Build}
+use Rattle.numbers.specs.Answers.{buildNumbers}
 
 -- the numbers are those of an answer for which a builder's promise holds
 pub record BuildExport (b : BuildInput) (r : Build) (held : Held) : Type 0 where

@@ -1,21 +1,18 @@
 // Weights, configurations, frames as numbers and the builders for C.
-use crate::answers::Build;
-use denoiser::BuildAnswer;
+use numbers::answers::Build;
 use weights::ArnrConfig;
-use window::Checked;
 use window::Frame;
-use window::Refusal;
 ghost use mathlib.Core.Path.{_≡_};
 ghost use Prim.Native.Nat.{min};
 ghost use Rattle.laws.specs.Tabulate.{tabulate};
 ghost use Rattle.weights.specs.Weights.{scale, weightRead};
 ghost use Rattle.weights.specs.Blend.{distanceBound};
 ghost use Rattle.window.specs.Frames.{frameCount, frameAt};
-ghost use Rattle.window.specs.Refusals.{given, checks, checkedOutcome, refusalOutcome};
+ghost use Rattle.window.specs.Refusals.{given, checks};
 ghost use Rattle.denoiser.specs.Demand.{Held};
-ghost use Rattle.denoiser.specs.Build.{asked, BuildInput, buildOutcome};
+ghost use Rattle.denoiser.specs.Build.{asked, BuildInput};
 ghost use Rattle.altref.specs.Records.{flat};
-ghost use Rattle.model.specs.Answers.{build, buildNumbers, checkNumbers};
+ghost use Rattle.numbers.specs.Answers.{checkNumbers};
 ghost use Rattle.model.specs.Builders.{BuildExport};
 
 #[no_mangle]
@@ -85,64 +82,6 @@ pub extern "C" fn vp8model_frame_at(numbers: &[u32], g: usize) -> Frame
     window::frame_at(numbers, g)
 }
 
-// A build's numbers in order.
-fn numbers_of(
-    refusal: u32,
-    width: u32,
-    height: u32,
-    accepted: u32,
-    other_width: u32,
-    other_height: u32,
-    frame: u32,
-) -> Build
-    ensures { λ r. ⌜ r ≡ build refusal width height accepted «other_width» «other_height» frame ⌝ }
-{
-    Build {
-        refusal: refusal,
-        width: width,
-        height: height,
-        accepted: accepted,
-        other_width: other_width,
-        other_height: other_height,
-        frame: frame,
-    }
-}
-
-// The numbers of a refusal.
-fn refusal_numbers(refusal: Refusal) -> Build
-    ensures { λ r. ⌜ r ≡ buildNumbers (refusalOutcome refusal) ⌝ }
-{
-    match refusal {
-        Refusal::NoCentre => numbers_of(1, 0, 0, 0, 0, 0, 0),
-        Refusal::TooManyFrames => numbers_of(2, 0, 0, 0, 0, 0, 0),
-        Refusal::BadSize(s) => numbers_of(3, s.width, s.height, 0, 0, 0, 0),
-        Refusal::OtherSize(s, c) => numbers_of(4, c.width, c.height, 0, s.width, s.height, 0),
-        Refusal::PlaneUnfit(g) => numbers_of(5, 0, 0, 0, 0, 0, g),
-        Refusal::ShortOutput => numbers_of(6, 0, 0, 0, 0, 0, 0),
-        Refusal::ShortWorking => numbers_of(7, 0, 0, 0, 0, 0, 0),
-    }
-}
-
-// The numbers of what the checks find.
-fn check_numbers(checked: Checked) -> Build
-    ensures { λ r. ⌜ r ≡ checkNumbers (checkedOutcome checked) ⌝ }
-{
-    match checked {
-        Checked::Legal(s) => numbers_of(0, s.width, s.height, 0, 0, 0, 0),
-        Checked::Refused(refusal) => refusal_numbers(refusal),
-    }
-}
-
-// The numbers of a builder's answer.
-fn build_numbers(answer: BuildAnswer) -> Build
-    ensures { λ r. ⌜ r ≡ buildNumbers (buildOutcome answer) ⌝ }
-{
-    match answer {
-        BuildAnswer::Done(b) => numbers_of(0, b.width, b.height, b.accepted, 0, 0, 0),
-        BuildAnswer::Refused(refusal) => refusal_numbers(refusal),
-    }
-}
-
 #[no_mangle]
 pub extern "C" fn vp8model_check_build(
     bytes: &[u8],
@@ -156,7 +95,7 @@ pub extern "C" fn vp8model_check_build(
         ⌜ r ≡ checkNumbers (checks (given (now (bytes .entry)) (now (numbers .entry)) centre «output_len» «sums_len» «weights_len»)) ⌝ }
 {
     let checked = window::check_build(bytes, numbers, centre, output_len, sums_len, weights_len);
-    check_numbers(checked)
+    numbers::check_numbers(checked)
 }
 
 #[no_mangle]
@@ -184,7 +123,7 @@ pub extern "C" fn vp8model_build_from_numbers(
 {
     let config = ArnrConfig { strength: strength };
     let answer = arnr::build_from_numbers(bytes, numbers, centre, config, output, sums, weights);
-    build_numbers(answer)
+    numbers::build_numbers(answer)
 }
 
 #[no_mangle]
@@ -212,5 +151,5 @@ pub extern "C" fn vp8model_build_arnr_altref(
 {
     let config = ArnrConfig { strength: strength };
     let answer = altref::build_arnr_altref(bytes, frames, centre, config, output, sums, weights);
-    build_numbers(answer)
+    numbers::build_numbers(answer)
 }

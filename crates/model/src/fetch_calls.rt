@@ -1,49 +1,28 @@
 // Fetches for C, and the two refusals of a plane that can be asked for alone.
-use crate::answers::Status;
-use fetch::FetchAnswer;
+use numbers::answers::Status;
 use prediction::motion_vector::Mv;
 ghost use mathlib.Core.Path.{_≡_};
 ghost use mathlib.Core.Bool.{_||_};
-ghost use mathlib.Core.List.{[]};
 ghost use Prim.Native.Nat.{_+_, _-_, _*_};
 ghost use lib.Dec.{ltb};
 ghost use Rattle.prediction.specs.Plane.{lumaPlane, sampleAt};
 ghost use Rattle.prediction.specs.Prediction.{macroblockOf, haloOf, offsetBy};
 ghost use Rattle.prediction.specs.Refusals.{badSide};
-ghost use Rattle.fetch.specs.Refusals.{fetchLines, fetchOutcome};
-ghost use Rattle.model.specs.Answers.{bit, mvOf, numberOf, Fills};
-
-// A truth value as 1 or 0.
-fn bit_of(b: bool) -> u8
-    ensures { λ r. ⌜ r ≡ bit b ⌝ }
-{
-    if b { 1 } else { 0 }
-}
+ghost use Rattle.fetch.specs.Refusals.{fetchLines};
+ghost use Rattle.numbers.specs.Answers.{bit, mvOf, Fills};
 
 #[no_mangle]
 pub extern "C" fn vp8model_bad_size(width: usize, height: usize) -> u8
     ensures { λ r. ⌜ r ≡ bit (badSide width || badSide height) ⌝ }
 {
-    bit_of(fetch::bad_size(width, height))
+    numbers::bit_of(fetch::bad_size(width, height))
 }
 
 #[no_mangle]
 pub extern "C" fn vp8model_short_plane(len: usize, stride: usize, width: usize, height: usize) -> u8
     ensures { λ r. ⌜ r ≡ bit (ltb len ((height - 1) * stride + width)) ⌝ }
 {
-    bit_of(fetch::short_plane(len, stride, width, height))
-}
-
-// The number of a fetch's refusal, 0 where it is accepted.
-fn fetch_number(answer: FetchAnswer) -> u32
-    ensures { λ r. ⌜ r ≡ numberOf (fetchOutcome answer []) ⌝ }
-{
-    match answer {
-        FetchAnswer::Fetched => 0,
-        FetchAnswer::BadSize => 8,
-        FetchAnswer::ShortPlane => 9,
-        FetchAnswer::BadOrigin => 10,
-    }
+    numbers::bit_of(fetch::short_plane(len, stride, width, height))
 }
 
 #[no_mangle]
@@ -70,7 +49,7 @@ pub extern "C" fn vp8model_fetch_luma_mb_whole_pixel(
     };
     let made = fetch::fetch_luma_mb_whole_pixel(plane, stride, width, height, x, y, mv);
     let answer = made.answer;
-    let number = fetch_number(answer);
+    let number = numbers::fetch_number(answer);
     if number == 0 {
         let filled = made.block;
         *block = filled;
@@ -102,7 +81,7 @@ pub extern "C" fn vp8model_fetch_luma_mb_halo(
     };
     let made = fetch::fetch_luma_mb_halo(plane, stride, width, height, x, y, mv);
     let answer = made.answer;
-    let number = fetch_number(answer);
+    let number = numbers::fetch_number(answer);
     if number == 0 {
         let filled = made.halo;
         *halo = filled;

@@ -1,5 +1,4 @@
 // The model for C: every public call under a name that begins with vp8model. include/vp8model.h declares them.
-pub mod answers;
 pub mod denoiser_calls;
 pub mod fetch_calls;
 pub mod prediction_calls;

@@ -1,11 +1,9 @@
 // Samples, vectors and filters for C.
-use crate::answers::Sample;
-use crate::answers::Status;
-use crate::answers::Vector;
-use prediction::motion_comp::FilterSet;
+use numbers::answers::Sample;
+use numbers::answers::Status;
+use numbers::answers::Vector;
 use prediction::motion_vector::Mv;
 use sixtap::FilterAnswer;
-use sixtap::Interpolated;
 ghost use mathlib.Core.Path.{_≡_};
 ghost use lib.ListN.{getD};
 ghost use Rattle.laws.specs.Outcome.{firstOf};
@@ -13,8 +11,8 @@ ghost use Rattle.prediction.specs.Samples.{clamped255, distance};
 ghost use Rattle.prediction.specs.Vector.{storedMv, wholeOf, fractionOf};
 ghost use Rattle.prediction.specs.Filter.{filterSetOf, sixtap, filtered};
 ghost use Rattle.prediction.specs.Prediction.{filteredMb};
-ghost use Rattle.sixtap.specs.Refusals.{selectorLines, filterLines, sampleOutcome};
-ghost use Rattle.model.specs.Answers.{filterNumber, mvOf, vectorNumbers, sampleNumbers, Fills};
+ghost use Rattle.sixtap.specs.Refusals.{selectorLines, filterLines};
+ghost use Rattle.numbers.specs.Answers.{filterNumber, mvOf, vectorNumbers, sampleNumbers, Fills};
 
 #[no_mangle]
 pub extern "C" fn vp8model_clamp255(v: i32) -> u8
@@ -35,11 +33,7 @@ pub extern "C" fn vp8model_stored_luma_mv(row: i16, col: i16) -> Vector
     ensures { λ r. ⌜ r ≡ vectorNumbers (storedMv (mvOf row col)) ⌝ }
 {
     let stored = prediction::motion_comp::stored_luma_mv(Mv { row: row, col: col });
-    Vector {
-        refusal: 0,
-        row: stored.row,
-        col: stored.col,
-    }
+    numbers::vector_numbers(stored)
 }
 
 #[no_mangle]
@@ -61,26 +55,7 @@ pub extern "C" fn vp8model_filter_set_for_version(version: u8) -> u32
     ensures { λ r. ⌜ r ≡ filterNumber (filterSetOf version) ⌝ }
 {
     let set = prediction::motion_comp::filter_set_for_version(version);
-    match set {
-        FilterSet::Sixtap => 0,
-        FilterSet::Bilinear => 1,
-    }
-}
-
-// The numbers of a filtered sample.
-fn sample_numbers(answer: Interpolated) -> Sample
-    ensures { λ r. ⌜ r ≡ sampleNumbers (sampleOutcome answer) ⌝ }
-{
-    match answer {
-        Interpolated::Sample(s) => Sample {
-            refusal: 0,
-            sample: s as u32,
-        },
-        Interpolated::BadSelector => Sample {
-            refusal: 13,
-            sample: 0,
-        },
-    }
+    numbers::filter_number(set)
 }
 
 #[no_mangle]
@@ -89,7 +64,7 @@ pub extern "C" fn vp8model_interp(selector: u32, support: &[u8; 6]) -> Sample
         ⌜ r ≡ sampleNumbers (firstOf (selectorLines selector) (filtered (sixtap selector) (λ k. getD (now (support .entry)) k 0))) ⌝ }
 {
     let answer = sixtap::interp(selector, *support);
-    sample_numbers(answer)
+    numbers::sample_numbers(answer)
 }
 
 #[no_mangle]

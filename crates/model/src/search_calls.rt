@@ -1,48 +1,21 @@
 // SADs and luma motion searches for C.
-use crate::answers::Diamond;
-use crate::answers::Sad;
-use crate::answers::Search;
-use motion_search::motion_search::DiamondAnswer;
-use motion_search::motion_search::SadAnswer;
-use motion_search::motion_search::SearchAnswer;
+use numbers::answers::Diamond;
+use numbers::answers::Sad;
+use numbers::answers::Search;
 use prediction::motion_vector::Mv;
 ghost use mathlib.Core.Path.{_≡_};
-ghost use mathlib.Core.List.{[]};
-ghost use Rattle.laws.specs.Outcome.{firstOf, refused};
+ghost use Rattle.laws.specs.Outcome.{firstOf};
 ghost use Rattle.prediction.specs.Plane.{lumaPlane};
-ghost use Rattle.motion_search.specs.Sad.{sad16, costOf};
-ghost use Rattle.motion_search.specs.Search.{diamond, refine};
-ghost use Rattle.motion_search.specs.Refusals.{placeLines, vectorLines, gridLines, sadOutcome, searchOutcome, diamondOutcome};
-ghost use Rattle.model.specs.Answers.{mvOf, sadNumbers, searchNumbers, diamondNumbers};
+ghost use Rattle.search.specs.Sad.{sad16, costOf};
+ghost use Rattle.search.specs.Search.{diamond, refine};
+ghost use Rattle.search.specs.Refusals.{placeLines, vectorLines, gridLines};
+ghost use Rattle.numbers.specs.Answers.{mvOf, sadNumbers, searchNumbers, diamondNumbers};
 
 #[no_mangle]
 pub extern "C" fn vp8model_block_sad_16x16(src: &[u8; 256], pred: &[u8; 256]) -> u32
     ensures { λ r. ⌜ r ≡ sad16 (now (src .entry)) (now (pred .entry)) ⌝ }
 {
     motion_search::motion_search::block_sad_16x16(src, pred)
-}
-
-// The numbers of a SAD's answer.
-fn sad_numbers(answer: SadAnswer) -> Sad
-    ensures { λ r. ⌜ r ≡ sadNumbers (sadOutcome answer) ⌝ }
-{
-    match answer {
-        SadAnswer::Sad(n) => Sad { refusal: 0, sad: n },
-        SadAnswer::BadSize => Sad { refusal: 8, sad: 0 },
-        SadAnswer::ShortPlane => Sad { refusal: 9, sad: 0 },
-        SadAnswer::BadMacroblock => Sad {
-            refusal: 10,
-            sad: 0,
-        },
-        SadAnswer::OutOfRange => Sad {
-            refusal: 11,
-            sad: 0,
-        },
-        SadAnswer::OffGrid => Sad {
-            refusal: 12,
-            sad: 0,
-        },
-    }
 }
 
 #[no_mangle]
@@ -77,7 +50,7 @@ pub extern "C" fn vp8model_mb_luma_sad_at_whole_mv(
         src_y,
         mv,
     );
-    sad_numbers(answer)
+    numbers::sad_numbers(answer)
 }
 
 #[no_mangle]
@@ -112,40 +85,7 @@ pub extern "C" fn vp8model_mb_luma_sad_at_mv(
         src_y,
         mv,
     );
-    sad_numbers(answer)
-}
-
-// A refused diamond.
-fn diamond_refused(number: u32) -> Diamond
-    ensures { λ r. ⌜ r ≡ diamondNumbers (refused number []) ⌝ }
-{
-    Diamond {
-        refusal: number,
-        row: 0,
-        col: 0,
-        sad: 0,
-        sads: 0,
-        rounds: 0,
-    }
-}
-
-// The numbers of a diamond's answer.
-fn diamond_numbers(answer: DiamondAnswer) -> Diamond
-    ensures { λ r. ⌜ r ≡ diamondNumbers (diamondOutcome answer) ⌝ }
-{
-    match answer {
-        DiamondAnswer::Found(d) => Diamond {
-            refusal: 0,
-            row: d.mv.row,
-            col: d.mv.col,
-            sad: d.sad,
-            sads: d.sads,
-            rounds: d.rounds,
-        },
-        DiamondAnswer::BadSize => diamond_refused(8),
-        DiamondAnswer::ShortPlane => diamond_refused(9),
-        DiamondAnswer::BadMacroblock => diamond_refused(10),
-    }
+    numbers::sad_numbers(answer)
 }
 
 #[no_mangle]
@@ -183,38 +123,7 @@ pub extern "C" fn vp8model_small_diamond_search_luma(
         center,
         max_iters,
     );
-    diamond_numbers(answer)
-}
-
-// A refused refinement.
-fn search_refused(number: u32) -> Search
-    ensures { λ r. ⌜ r ≡ searchNumbers (refused number []) ⌝ }
-{
-    Search {
-        refusal: number,
-        row: 0,
-        col: 0,
-        sad: 0,
-    }
-}
-
-// The numbers of a refinement's answer.
-fn search_numbers(answer: SearchAnswer) -> Search
-    ensures { λ r. ⌜ r ≡ searchNumbers (searchOutcome answer) ⌝ }
-{
-    match answer {
-        SearchAnswer::Found(s) => Search {
-            refusal: 0,
-            row: s.mv.row,
-            col: s.mv.col,
-            sad: s.sad,
-        },
-        SearchAnswer::BadSize => search_refused(8),
-        SearchAnswer::ShortPlane => search_refused(9),
-        SearchAnswer::BadMacroblock => search_refused(10),
-        SearchAnswer::OutOfRange => search_refused(11),
-        SearchAnswer::OffGrid => search_refused(12),
-    }
+    numbers::diamond_numbers(answer)
 }
 
 #[no_mangle]
@@ -249,7 +158,7 @@ pub extern "C" fn vp8model_half_pixel_refine_luma(
         src_y,
         center,
     );
-    search_numbers(answer)
+    numbers::search_numbers(answer)
 }
 
 #[no_mangle]
@@ -284,5 +193,5 @@ pub extern "C" fn vp8model_quarter_pixel_refine_luma(
         src_y,
         center,
     );
-    search_numbers(answer)
+    numbers::search_numbers(answer)
 }

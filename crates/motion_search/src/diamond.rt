@@ -1,17 +1,17 @@
 // The small diamond.
-use crate::motion_search::DiamondResult;
 use crate::motion_search::WHOLE_PIXEL_STEP;
 use crate::sads::whole_sad;
-use crate::site::Site;
 use crate::vectors::neighbour;
 use crate::vectors::same_mv;
 use crate::vectors::to_grid;
 use prediction::motion_vector::Mv;
+use search::DiamondResult;
+use search::Site;
 ghost use mathlib.Core.Path.{_≡_};
 ghost use Prim.Native.Nat.{_≤_, _<_};
 ghost use Rattle.laws.specs.Signed.{above, below};
-ghost use Rattle.motion_search.specs.Search.{tried, roundOf, diamond};
-ghost use Rattle.motion_search.specs.Conditions.{costAt, Ready, Whole, Good};
+ghost use Rattle.search.specs.Search.{tried, roundOf, diamond};
+ghost use Rattle.search.specs.Conditions.{costAt, Ready, Whole, Good};
 
 // One neighbour of the best so far.
 fn try_at(

@@ -4,5 +4,4 @@ pub mod motion_search;
 mod refinement;
 mod refusals;
 mod sads;
-mod site;
 mod vectors;

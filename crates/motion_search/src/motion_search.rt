@@ -7,19 +7,23 @@ use crate::refusals::out_of_range;
 use crate::sads::any_sad;
 use crate::sads::block_sad;
 use crate::sads::whole_sad;
-use crate::site::Site;
 use fetch::bad_size;
 use fetch::short_plane;
 use prediction::motion_vector::Mv;
+use search::DiamondAnswer;
+use search::SadAnswer;
+use search::SearchAnswer;
+use search::SearchResult;
+use search::Site;
 ghost use mathlib.Core.Path.{_≡_};
 ghost use Prim.Native.Nat.{_*_, _≤_, _<_};
 ghost use lib.ListN.{length};
 ghost use Rattle.laws.specs.Outcome.{firstOf};
 ghost use Rattle.prediction.specs.Plane.{lumaPlane};
-ghost use Rattle.motion_search.specs.Sad.{sad16, costOf};
-ghost use Rattle.motion_search.specs.Search.{diamond, refine};
-ghost use Rattle.motion_search.specs.Refusals.{placeLines, vectorLines, gridLines, sadOutcome, searchOutcome, diamondOutcome};
-ghost use Rattle.motion_search.specs.Conditions.{planeOf, costAt};
+ghost use Rattle.search.specs.Sad.{sad16, costOf};
+ghost use Rattle.search.specs.Search.{diamond, refine};
+ghost use Rattle.search.specs.Refusals.{placeLines, vectorLines, gridLines, sadOutcome, searchOutcome, diamondOutcome};
+ghost use Rattle.search.specs.Conditions.{planeOf, costAt};
 
 // The range of a component, in quarter pixels.
 pub const MV_MIN: i16 = -1023;
@@ -32,45 +36,6 @@ pub const WHOLE_PIXEL_STEP: i16 = 4;
 pub const HALF_PIXEL_STEP: i16 = 2;
 
 pub const QUARTER_PIXEL_STEP: i16 = 1;
-
-// A vector and its SAD.
-pub struct SearchResult {
-    pub mv: Mv,
-    pub sad: u32,
-}
-
-// A vector, its SAD, the SADs computed (the first included) and the rounds made (the last without a move included).
-pub struct DiamondResult {
-    pub mv: Mv,
-    pub sad: u32,
-    pub sads: u32,
-    pub rounds: u32,
-}
-
-pub enum SadAnswer {
-    Sad(u32),
-    BadSize,
-    ShortPlane,
-    BadMacroblock,
-    OutOfRange,
-    OffGrid,
-}
-
-pub enum SearchAnswer {
-    Found(SearchResult),
-    BadSize,
-    ShortPlane,
-    BadMacroblock,
-    OutOfRange,
-    OffGrid,
-}
-
-pub enum DiamondAnswer {
-    Found(DiamondResult),
-    BadSize,
-    ShortPlane,
-    BadMacroblock,
-}
 
 // The SAD of two blocks of 16 by 16 samples.
 pub fn block_sad_16x16(src: &[u8; 256], pred: &[u8; 256]) -> u32

@@ -1,14 +1,14 @@
 // Half and quarter refinement.
-use crate::motion_search::SearchResult;
 use crate::sads::any_sad;
-use crate::site::Site;
 use crate::vectors::raster_of;
 use prediction::motion_vector::Mv;
+use search::SearchResult;
+use search::Site;
 ghost use mathlib.Core.Path.{_≡_};
 ghost use Prim.Native.Nat.{_≤_};
 ghost use Rattle.laws.specs.Best.{betterOf};
-ghost use Rattle.motion_search.specs.Search.{refine};
-ghost use Rattle.motion_search.specs.Conditions.{costAt, Ready, Room};
+ghost use Rattle.search.specs.Search.{refine};
+ghost use Rattle.search.specs.Conditions.{costAt, Ready, Room};
 
 // The better of the best so far and a vector: only a smaller SAD replaces the best.
 fn try_mv(plane: &[u8], s: Site, src: &[u8], best: SearchResult, mv: Mv) -> SearchResult

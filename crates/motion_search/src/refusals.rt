@@ -5,7 +5,7 @@ use prediction::motion_vector::Mv;
 ghost use mathlib.Core.Path.{_≡_};
 ghost use Prim.Native.Nat.{_<_};
 ghost use lib.IntN.{natAbs};
-ghost use Rattle.motion_search.specs.Refusals.{badMacroblock, outside, outOfRange, notMultiple, offGrid};
+ghost use Rattle.search.specs.Refusals.{badMacroblock, outside, outOfRange, notMultiple, offGrid};
 
 // 10.
 pub(crate) fn bad_macroblock(column: usize, row: usize) -> bool

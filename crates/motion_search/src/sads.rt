@@ -1,5 +1,4 @@
 // Sums of absolute differences (SADs) of macroblocks.
-use crate::site::Site;
 use fetch::fetch_luma_mb_halo;
 use fetch::fetch_luma_mb_whole_pixel;
 use prediction::inverse_transform::abs_diff;
@@ -7,6 +6,7 @@ use prediction::motion_comp::fraction;
 use prediction::motion_comp::stored_luma_mv;
 use prediction::motion_comp::whole_offset;
 use prediction::motion_vector::Mv;
+use search::Site;
 use sixtap::sixtap_mb_luma;
 ghost use mathlib.Core.Path.{_≡_};
 ghost use Prim.Native.Nat.{_+_, _-_, _*_, _/_, _%_, _≤_, _<_};
@@ -16,8 +16,8 @@ ghost use Rattle.laws.specs.Signed.{above, below};
 ghost use Rattle.laws.specs.Sums.{sumBelow};
 ghost use Rattle.prediction.specs.Samples.{distance};
 ghost use Rattle.prediction.specs.Vector.{wholeOf};
-ghost use Rattle.motion_search.specs.Sad.{sad16};
-ghost use Rattle.motion_search.specs.Conditions.{costAt, copiedAt, predictedFrom, Ready, Copied, Inside, twoApart};
+ghost use Rattle.search.specs.Sad.{sad16};
+ghost use Rattle.search.specs.Conditions.{costAt, copiedAt, predictedFrom, Ready, Copied, Inside, twoApart};
 
 // The SAD of two rows of a block, which follow one another, and of two rows of a plane.
 fn two_rows_sad(a: &[u8], b: &[u8], c: &[u8]) -> u32

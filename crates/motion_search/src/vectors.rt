@@ -7,8 +7,8 @@ ghost use mathlib.Core.Path.{_≡_};
 ghost use Prim.Native.Nat.{_+_, _≤_, _<_};
 ghost use lib.IntN.{natAbs};
 ghost use Rattle.laws.specs.Signed.{above, below};
-ghost use Rattle.motion_search.specs.Search.{clampedMv, cutTo4, onGrid, gridded, stepped, sameMv, placeOf, stepTo, rasterOf};
-ghost use Rattle.motion_search.specs.Conditions.{Whole, Room};
+ghost use Rattle.search.specs.Search.{clampedMv, cutTo4, onGrid, gridded, stepped, sameMv, placeOf, stepTo, rasterOf};
+ghost use Rattle.search.specs.Conditions.{Whole, Room};
 
 fn clamp_component(v: i16) -> i16
     ensures { λ r. ⌜ r ≡ clampedMv v ⌝ }

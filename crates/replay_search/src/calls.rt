@@ -4,9 +4,6 @@ use crate::header::number;
 use crate::header::part;
 use crate::header::vector;
 use crate::header::word;
-use motion_search::motion_search::DiamondAnswer;
-use motion_search::motion_search::SadAnswer;
-use motion_search::motion_search::SearchAnswer;
 use motion_search::motion_search::block_sad_16x16;
 use motion_search::motion_search::half_pixel_refine_luma;
 use motion_search::motion_search::mb_luma_sad_at_mv;
@@ -14,6 +11,9 @@ use motion_search::motion_search::mb_luma_sad_at_whole_mv;
 use motion_search::motion_search::quarter_pixel_refine_luma;
 use motion_search::motion_search::small_diamond_search_luma;
 use prediction::motion_vector::Mv;
+use search::DiamondAnswer;
+use search::SadAnswer;
+use search::SearchAnswer;
 
 // Document 01's number of a refusal, 0 where the call is accepted, and what is found; 0 what is not.
 struct Outcome {

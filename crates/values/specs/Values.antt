@@ -13,7 +13,7 @@ use Rattle.prediction.specs.Filter.{products, filtered, sixtapRows, sixtap}
 use Rattle.weights.specs.Weights.{scale, weightOf}
 use Rattle.weights.specs.Blend.{totalWeight, weightedSum, denoised, distanceBound}
 use Rattle.window.specs.Layout.{sideOf}
-use Rattle.motion_search.specs.Search.{onGrid}
+use Rattle.search.specs.Search.{onGrid}
 use Rattle.denoiser.specs.Grid.{gridBlock, blockIn}
 use Rattle.denoiser.specs.Search.{halved}
 use Rattle.denoiser.specs.Window.{sadAccepted}

@@ -63,15 +63,15 @@ use Rattle.altref.proofs.build_arnr_altref as altref
 use Rattle.altref.proofs.build_arnr_altref.Symbol as altref-def
 use Rattle.altref.proofs.build_arnr_altref.Symbol.{name as #altref·build-arnr-altref}
 use Rattle.altref.proofs.build_arnr_altref.Met as altref-thm
-use Rattle.model.specs.declared.answers.Build.{Build}
-use Rattle.model.specs.Answers.{buildNumbers}
+use Rattle.numbers.specs.declared.answers.Build.{Build}
+use Rattle.numbers.specs.Answers.{buildNumbers}
 use Rattle.model.specs.Builders.{BuildExport}
-use Rattle.model.proofs.answers.Build as R
-use Rattle.model.proofs.answers.Build.Laws as R′
-use Rattle.model.proofs.denoiser_calls.build_numbers as numbers
-use Rattle.model.proofs.denoiser_calls.build_numbers.Symbol as numbers-def
-use Rattle.model.proofs.denoiser_calls.build_numbers.Symbol.{name as #model·build-numbers}
-use Rattle.model.proofs.denoiser_calls.build_numbers.Met as numbers-thm
+use Rattle.numbers.proofs.answers.Build as R
+use Rattle.numbers.proofs.answers.Build.Laws as R′
+use Rattle.numbers.proofs.build_numbers as numbers
+use Rattle.numbers.proofs.build_numbers.Symbol as numbers-def
+use Rattle.numbers.proofs.build_numbers.Symbol.{name as #numbers·build-numbers}
+use Rattle.numbers.proofs.build_numbers.Met as numbers-thm
 use Rattle.model.proofs.denoiser_calls.vp8model_build_arnr_altref.Key.{name as #model·export}
 use Rattle.model.proofs.denoiser_calls.vp8model_build_arnr_altref as export
 use Rattle.model.proofs.denoiser_calls.vp8model_build_arnr_altref.Statement as stated
@@ -200,7 +200,7 @@ module _ {M : Type 1} (𝓤 : URA M) (H : Heap 𝓤) (A : Atoms 𝓤) (W : Given
       owned ! u8 (Is u8) (uint-makes 𝓤 H A W w8) strength _ (refl, s-fits) $ fjoin ! $ owned ! usize (Is usize) (uint-makes 𝓤 H A W w64) centre _ (refl, c-fits) $ fjoin ! $
       move ! (3 ∷ 0 ∷ []) $ fjoin ! $ move ! (2 ∷ 0 ∷ []) $ fjoin ! $ frame ! $ done !
 
-  module _ (C : Calls 𝓤 H) (Λ : Loops 𝓤 H) (fm : FmC 𝓤 H (W .laws) C) (known-altref : Triple 𝓤 (C #altref·build-arnr-altref) (Altref 𝓤 H A mem run)) (known-numbers : Triple 𝓤 (C #model·build-numbers) (Numbers 𝓤 H A mem run)) where
+  module _ (C : Calls 𝓤 H) (Λ : Loops 𝓤 H) (fm : FmC 𝓤 H (W .laws) C) (known-altref : Triple 𝓤 (C #altref·build-arnr-altref) (Altref 𝓤 H A mem run)) (known-numbers : Triple 𝓤 (C #numbers·build-numbers) (Numbers 𝓤 H A mem run)) where
     walk : ent 𝓤 (onEntry 𝓤 H A export.signature κs qs a at) (WpFn 𝓤 H C Λ code.function (sv bytes ∷ sv frames ∷ vint w64 centre ∷ vint w8 strength ∷ sv out ∷ sv sums ∷ sv weights ∷ []) Post)
     walk =
         qed W (Tokens ∷ ‵ (owns (ShrSlice (named 0) κ₀ u8 ∷ ShrSlice (named 1) κ₁ T.the-row ∷ usize ∷ u8 ∷ MutSlice (named 2) κ₂ u8 ∷ MutSlice (named 3) κ₃ u32 ∷ MutSlice (named 4) κ₄ u32 ∷ []) a at) ∷ []) ∵
@@ -246,7 +246,7 @@ module _ {M : Type 1} (𝓤 : URA M) (H : Heap 𝓤) (A : Atoms 𝓤) (W : Given
         keep ! (0 ∷ 2 ∷ 3 ∷ 4 ∷ 5 ∷ 7 ∷ 8 ∷ []) $ by ! (exits d z (zs .1 .1 .1 .1 .0) (zs .1 .1 .1 .1 .1 .0) (zs .1 .1 .1 .1 .1 .1 .0) (record { answer = r; promise = p; numbers = n }) lo lu lw)))))))))))))))))))))))))))))
 
 module _ {M : Type 1} (𝓤 : URA M) (H : Heap 𝓤) (A : Atoms 𝓤) (W : Given 𝓤 H A) (mem : Memory → SProp 𝓤) (run : Routine → Fun 𝓤) where
-  export-walks : (C : Calls 𝓤 H) (Λ : Loops 𝓤 H) → FmC 𝓤 H (W .laws) C → Triple 𝓤 (C #altref·build-arnr-altref) (Altref 𝓤 H A mem run) → Triple 𝓤 (C #model·build-numbers) (Numbers 𝓤 H A mem run)
+  export-walks : (C : Calls 𝓤 H) (Λ : Loops 𝓤 H) → FmC 𝓤 H (W .laws) C → Triple 𝓤 (C #altref·build-arnr-altref) (Altref 𝓤 H A mem run) → Triple 𝓤 (C #numbers·build-numbers) (Numbers 𝓤 H A mem run)
       → Walks 𝓤 H A export.ended stayed (WpFn 𝓤 H C Λ code.function) (export.clauses 𝓤 H A mem run)
   export-walks C Λ fm known-altref known-numbers = walked 𝓤 H A export.ended stayed (export.clauses 𝓤 H A mem run) (WpFn 𝓤 H C Λ code.function)
       (λ κs. (slice-vals, (slice-vals, (uint-vals w64, (uint-vals w8, (slice-vals, (slice-vals, (slice-vals, tt))))))))
@@ -257,7 +257,7 @@ module _ {M : Type 1} (𝓤 : URA M) (H : Heap 𝓤) (A : Atoms 𝓤) (W : Given
       (are .0 .0 .1) (are .1 .0 .0 .1) (are .1 .1 .0 .1) (are .1 .1 .1 .0 .1) (are .1 .1 .1 .1 .0 .0 .1) (are .1 .1 .1 .1 .1 .0 .0 .1) (are .1 .1 .1 .1 .1 .1 .0 .0 .1) C Λ fm known-altref known-numbers))
 
 export-meets : {M : Type 1} (𝓤 : URA M) (H : Heap 𝓤) (A : Atoms 𝓤) → Given 𝓤 H A → (mem : Memory → SProp 𝓤) (run : Routine → Fun 𝓤) (𝓣 : Tables 𝓤 H)
-    → Triple 𝓤 (𝓣 .C #altref·build-arnr-altref) (Altref 𝓤 H A mem run) → Triple 𝓤 (𝓣 .C #model·build-numbers) (Numbers 𝓤 H A mem run)
+    → Triple 𝓤 (𝓣 .C #altref·build-arnr-altref) (Altref 𝓤 H A mem run) → Triple 𝓤 (𝓣 .C #numbers·build-numbers) (Numbers 𝓤 H A mem run)
     → Meets 𝓤 H A export.signature (WpFn 𝓤 H (𝓣 .C) (𝓣 .Λ) code.function) (export.spec 𝓤 H A mem run)
 export-meets 𝓤 H A W mem run 𝓣 known-altref known-numbers =
     walk-meets 𝓤 H A export.ended stayed W (
@@ -282,4 +282,4 @@ vp8model-build-arnr-altref-spec 𝓤 H 𝓜 𝓖 𝓡 =
     (tables 𝓤 H 𝓜 𝓡 code.env .C) (tables 𝓤 H 𝓜 𝓡 code.env .Λ) #model·export code.function (code.unfolded 𝓤 H 𝓜 𝓡)
     (export-meets 𝓤 H (𝓖 .A) (givenOf 𝓤 H 𝓜 𝓖) (𝓜 .mem) (𝓡 .run) (tablesOf 𝓤 H 𝓜 (tables 𝓤 H 𝓜 𝓡 code.env))
     (cited 𝓤 H (Altref 𝓤 H (𝓖 .A) (𝓜 .mem) (𝓡 .run)) 𝓜 𝓡 code.env #altref·build-arnr-altref altref-def.routine code.calls-altref·build-arnr-altref (altref-thm.met 𝓤 H 𝓜 𝓖 𝓡))
-    (cited 𝓤 H (Numbers 𝓤 H (𝓖 .A) (𝓜 .mem) (𝓡 .run)) 𝓜 𝓡 code.env #model·build-numbers numbers-def.routine code.calls-model·denoiser-calls·build-numbers (numbers-thm.met 𝓤 H 𝓜 𝓖 𝓡)))
+    (cited 𝓤 H (Numbers 𝓤 H (𝓖 .A) (𝓜 .mem) (𝓡 .run)) 𝓜 𝓡 code.env #numbers·build-numbers numbers-def.routine code.calls-numbers·build-numbers (numbers-thm.met 𝓤 H 𝓜 𝓖 𝓡)))

@@ -1,6 +1,6 @@
 -- `vp8model_check_build` meets its contract: the wrapped call's, as numbers. Assumes nothing.
 use mathlib.Core.Path.{ap, _∙_}
-use Rattle.model.specs.Answers.{checkNumbers}
+use Rattle.numbers.specs.Answers.{checkNumbers}
 use borrow.Author.Needs.{needs}
 use Rattle.model.proofs.denoiser_calls.vp8model_check_build.Statement.{statement}
 use Rattle.model.proofs.denoiser_calls.vp8model_check_build.Tie as tie

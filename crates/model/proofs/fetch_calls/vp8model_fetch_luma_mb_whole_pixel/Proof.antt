@@ -7,7 +7,7 @@ use Rattle.prediction.specs.declared.motion_vector.Mv.{Mv}
 use Rattle.prediction.specs.Plane.{lumaPlane, sampleAt}
 use Rattle.prediction.specs.Prediction.{macroblockOf, offsetBy}
 use Rattle.fetch.specs.Refusals.{fetchLines}
-use Rattle.model.proofs.Filled.{fetch-stored, fetch-kept}
+use Rattle.numbers.proofs.Filled.{fetch-stored, fetch-kept}
 use borrow.Author.Needs.{needs}
 use Rattle.model.proofs.fetch_calls.vp8model_fetch_luma_mb_whole_pixel.Statement.{
   statement,

@@ -1,6 +1,6 @@
 -- `vp8model_short_plane` meets its contract: the wrapped call's, as numbers. Assumes nothing.
 use mathlib.Core.Path.{ap, _∙_}
-use Rattle.model.specs.Answers.{bit}
+use Rattle.numbers.specs.Answers.{bit}
 use borrow.Author.Needs.{needs}
 use Rattle.model.proofs.fetch_calls.vp8model_short_plane.Statement.{statement}
 use Rattle.model.proofs.fetch_calls.vp8model_short_plane.Tie as tie

@@ -1,6 +1,6 @@
 -- `vp8model_interp` meets its contract: the wrapped call's, as numbers. Assumes nothing.
 use mathlib.Core.Path.{ap, _∙_}
-use Rattle.model.specs.Answers.{sampleNumbers}
+use Rattle.numbers.specs.Answers.{sampleNumbers}
 use borrow.Author.Needs.{needs}
 use Rattle.model.proofs.prediction_calls.vp8model_interp.Statement.{statement}
 use Rattle.model.proofs.prediction_calls.vp8model_interp.Tie as tie

@@ -5,7 +5,7 @@ use Rattle.prediction.specs.Filter.{sixtap}
 use Rattle.prediction.specs.Prediction.{filteredMb}
 use Rattle.sixtap.specs.declared.FilterAnswer.{FilterAnswer}
 use Rattle.sixtap.specs.Refusals.{filterLines, filterOutcome}
-use Rattle.model.proofs.Filled.{stored, kept}
+use Rattle.numbers.proofs.Filled.{stored, kept}
 use borrow.Author.Needs.{needs}
 use Rattle.model.proofs.prediction_calls.vp8model_sixtap_mb_luma.Statement.{statement}
 use Rattle.model.proofs.prediction_calls.vp8model_sixtap_mb_luma.Tie as tie

@@ -1,7 +1,7 @@
 -- `vp8model_half_pixel_refine_luma` meets its contract: the wrapped call's, as numbers. Assumes nothing.
 use mathlib.Core.Path.{ap, _∙_}
 use mir.Facts.{toZ-ofZ}
-use Rattle.model.specs.Answers.{searchNumbers}
+use Rattle.numbers.specs.Answers.{searchNumbers}
 use borrow.Author.Needs.{needs}
 use Rattle.model.proofs.search_calls.vp8model_half_pixel_refine_luma.Statement.{statement}
 use Rattle.model.proofs.search_calls.vp8model_half_pixel_refine_luma.Tie as tie

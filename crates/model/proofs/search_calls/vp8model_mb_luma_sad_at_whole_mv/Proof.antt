@@ -1,7 +1,7 @@
 -- `vp8model_mb_luma_sad_at_whole_mv` meets its contract: the wrapped call's, as numbers. Assumes nothing.
 use mathlib.Core.Path.{ap, _∙_}
 use mir.Facts.{toZ-ofZ}
-use Rattle.model.specs.Answers.{sadNumbers}
+use Rattle.numbers.specs.Answers.{sadNumbers}
 use borrow.Author.Needs.{needs}
 use Rattle.model.proofs.search_calls.vp8model_mb_luma_sad_at_whole_mv.Statement.{statement}
 use Rattle.model.proofs.search_calls.vp8model_mb_luma_sad_at_whole_mv.Tie as tie

@@ -1,7 +1,7 @@
 -- `vp8model_small_diamond_search_luma` meets its contract: the wrapped call's, as numbers. Assumes nothing.
 use mathlib.Core.Path.{ap, _∙_}
 use mir.Facts.{toZ-ofZ}
-use Rattle.model.specs.Answers.{diamondNumbers}
+use Rattle.numbers.specs.Answers.{diamondNumbers}
 use borrow.Author.Needs.{needs}
 use Rattle.model.proofs.search_calls.vp8model_small_diamond_search_luma.Statement.{
   statement,

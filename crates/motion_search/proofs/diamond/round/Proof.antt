@@ -3,9 +3,9 @@ use mathlib.Core.Path.{ap, _∙_}
 use native.Mathlib.Omega.{arith}
 use borrow.Author.Needs.{needs}
 use lib.IntN.{pos, negℤ}
-use Rattle.motion_search.specs.Search.{down, left, right, counted, roundOf}
-use Rattle.motion_search.specs.Conditions.{costAt}
-use Rattle.motion_search.proofs.Descent.{Tried, tried-is}
+use Rattle.search.specs.Search.{down, left, right, counted, roundOf}
+use Rattle.search.specs.Conditions.{costAt}
+use Rattle.search.proofs.Descent.{Tried, tried-is}
 use Rattle.motion_search.proofs.diamond.round.Statement.{statement}
 use Rattle.motion_search.proofs.diamond.round.Tie as tie
 

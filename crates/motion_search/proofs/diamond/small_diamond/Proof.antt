@@ -3,12 +3,12 @@ use mathlib.Core.Path.{_≡_, ap, _∙_}
 use Prim.Native.Nat.{_+_, _-_}
 use native.Mathlib.Omega.{arith}
 use borrow.Author.Needs.{needs}
-use Rattle.motion_search.specs.Search.{gridded, descend, startAt, diamond}
-use Rattle.motion_search.specs.Conditions.{planeOf, costAt}
-use Rattle.motion_search.proofs.Grid.{whole, whole-copied}
-use Rattle.motion_search.proofs.SadLaws.{cost-most}
-use Rattle.motion_search.proofs.Descent.{round-is}
-use Rattle.motion_search.proofs.Steps.{Going, going-start, going-more, going-last, going-end, start-at}
+use Rattle.search.specs.Search.{gridded, descend, startAt, diamond}
+use Rattle.search.specs.Conditions.{planeOf, costAt}
+use Rattle.search.proofs.Grid.{whole, whole-copied}
+use Rattle.search.proofs.SadLaws.{cost-most}
+use Rattle.search.proofs.Descent.{round-is}
+use Rattle.search.proofs.Steps.{Going, going-start, going-more, going-last, going-end, start-at}
 use Rattle.motion_search.proofs.diamond.small_diamond.Statement.{statement}
 use Rattle.motion_search.proofs.diamond.small_diamond.Tie as tie
 

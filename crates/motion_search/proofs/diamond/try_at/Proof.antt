@@ -3,9 +3,9 @@ use mathlib.Core.Path.{_≡_, sym, _∙_}
 use borrow.Author.Needs.{needs}
 use lib.IntN.{_+ℤ_}
 use mir.Facts.{toZ-ofZ}
-use Rattle.motion_search.specs.Search.{stepped}
-use Rattle.motion_search.proofs.Grid.{whole, whole-copied}
-use Rattle.motion_search.proofs.Steps.{tried-skipped, tried-better, tried-worse}
+use Rattle.search.specs.Search.{stepped}
+use Rattle.search.proofs.Grid.{whole, whole-copied}
+use Rattle.search.proofs.Steps.{tried-skipped, tried-better, tried-worse}
 use Rattle.motion_search.proofs.diamond.try_at.Statement.{statement}
 use Rattle.motion_search.proofs.diamond.try_at.Tie as tie
 

@@ -1,7 +1,7 @@
 -- `checked` meets its contract. Assumes nothing.
 use mathlib.Core.Path.{refl, sym, _∙_}
 use borrow.Author.Needs.{needs}
-use Rattle.motion_search.proofs.Accepted.{hit, pass, short-line}
+use Rattle.search.proofs.Accepted.{hit, pass, short-line}
 use Rattle.motion_search.proofs.motion_search.checked.Statement.{statement}
 use Rattle.motion_search.proofs.motion_search.checked.Tie as tie
 

@@ -1,6 +1,6 @@
 -- `mb_luma_sad_at_mv` meets its contract. Assumes nothing.
 use borrow.Author.Needs.{needs}
-use Rattle.motion_search.proofs.Accepted.{grid-one}
+use Rattle.search.proofs.Accepted.{grid-one}
 use Rattle.motion_search.proofs.motion_search.mb_luma_sad_at_mv.Statement.{statement}
 use Rattle.motion_search.proofs.motion_search.mb_luma_sad_at_mv.Tie as tie
 

@@ -3,9 +3,9 @@ use mathlib.Core.Path.{refl, ap, _∙_}
 use Prim.Native.Nat.{ℕ}
 use borrow.Author.Needs.{needs}
 use Rattle.laws.specs.Outcome.{accepted}
-use Rattle.motion_search.specs.declared.site.Site.{Site}
-use Rattle.motion_search.specs.Conditions.{costAt}
-use Rattle.motion_search.proofs.Checks.{still-refused, linesOf, ready, whole-here, counts}
+use Rattle.search.specs.declared.Site.{Site}
+use Rattle.search.specs.Conditions.{costAt}
+use Rattle.search.proofs.Checks.{still-refused, linesOf, ready, whole-here, counts}
 use Rattle.motion_search.proofs.motion_search.mb_luma_sad_at_whole_mv.Statement.{statement}
 use Rattle.motion_search.proofs.motion_search.mb_luma_sad_at_whole_mv.Tie as tie
 

@@ -5,11 +5,11 @@ use Prim.Native.Nat.{ℕ, _*_}
 use borrow.Author.Needs.{needs}
 use Rattle.laws.specs.Outcome.{accepted, Line, skipped, answered}
 use Rattle.prediction.specs.declared.motion_vector.Mv.{Mv}
-use Rattle.motion_search.specs.declared.site.Site.{Site}
-use Rattle.motion_search.specs.Refusals.{sadOutcome, gridLines}
-use Rattle.motion_search.specs.Conditions.{planeOf, costAt}
-use Rattle.motion_search.proofs.Accepted.{also-refused, also-accepted}
-use Rattle.motion_search.proofs.Refine.{step-room}
+use Rattle.search.specs.declared.Site.{Site}
+use Rattle.search.specs.Refusals.{sadOutcome, gridLines}
+use Rattle.search.specs.Conditions.{planeOf, costAt}
+use Rattle.search.proofs.Accepted.{also-refused, also-accepted}
+use Rattle.search.proofs.Refine.{step-room}
 use Rattle.motion_search.proofs.motion_search.refine_luma.Statement.{statement}
 use Rattle.motion_search.proofs.motion_search.refine_luma.Tie as tie
 

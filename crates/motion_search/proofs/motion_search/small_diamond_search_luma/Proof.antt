@@ -3,7 +3,7 @@ use mathlib.Core.Path.{sym, ap, _∙_}
 use native.Mathlib.Omega.{arith}
 use borrow.Author.Needs.{needs}
 use Rattle.laws.specs.Outcome.{accepted}
-use Rattle.motion_search.proofs.Accepted.{hit, pass, short-line}
+use Rattle.search.proofs.Accepted.{hit, pass, short-line}
 use Rattle.motion_search.proofs.motion_search.small_diamond_search_luma.Statement.{statement}
 use Rattle.motion_search.proofs.motion_search.small_diamond_search_luma.Tie as tie
 

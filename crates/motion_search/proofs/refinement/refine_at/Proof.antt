@@ -5,9 +5,9 @@ use native.Mathlib.Omega.{arith}
 use borrow.Author.Needs.{needs}
 use Rattle.laws.specs.Best.{bestOf, best-none, best-more}
 use Rattle.prediction.specs.declared.motion_vector.Mv.{Mv}
-use Rattle.motion_search.specs.declared.motion_search.SearchResult.{SearchResult}
-use Rattle.motion_search.specs.Search.{rasterOf, measuredAt, refine}
-use Rattle.motion_search.specs.Conditions.{costAt}
+use Rattle.search.specs.declared.SearchResult.{SearchResult}
+use Rattle.search.specs.Search.{rasterOf, measuredAt, refine}
+use Rattle.search.specs.Conditions.{costAt}
 use Rattle.motion_search.proofs.refinement.refine_at.Statement.{statement}
 use Rattle.motion_search.proofs.refinement.refine_at.Tie as tie
 

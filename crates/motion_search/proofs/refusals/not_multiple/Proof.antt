@@ -5,7 +5,7 @@ use Prim.Native.Nat.{ℕ, _%_}
 use lib.Dec.{ltb}
 use lib.IntN.{ℤ, natAbs}
 use borrow.Author.Needs.{needs}
-use Rattle.motion_search.specs.Refusals.{notMultiple}
+use Rattle.search.specs.Refusals.{notMultiple}
 use Rattle.motion_search.proofs.refusals.not_multiple.Statement.{statement}
 use Rattle.motion_search.proofs.refusals.not_multiple.Tie as tie
 

@@ -4,7 +4,7 @@ use Rattle.laws.specs.Outcome.{or-first, or-second}
 use mir.Facts.{toZ-ofZ}
 use mir.Syntax.{w16}
 use mir.Val.{SFits}
-use Rattle.motion_search.specs.Refusals.{outside}
+use Rattle.search.specs.Refusals.{outside}
 use borrow.Author.Needs.{needs}
 use Rattle.motion_search.proofs.refusals.out_of_range.Statement.{statement}
 use Rattle.motion_search.proofs.refusals.out_of_range.Tie as tie

@@ -6,8 +6,8 @@ use mir.Val.{SFits}
 use mir.Facts.{toZ-ofZ}
 use Rattle.prediction.specs.declared.motion_vector.Mv.{Mv}
 use Rattle.prediction.specs.Vector.{fractionOf}
-use Rattle.motion_search.specs.Sad.{sad16, costOf}
-use Rattle.motion_search.specs.Conditions.{predictedFrom}
+use Rattle.search.specs.Sad.{sad16, costOf}
+use Rattle.search.specs.Conditions.{predictedFrom}
 use Rattle.motion_search.proofs.sads.any_sad.Statement.{statement}
 use Rattle.motion_search.proofs.sads.any_sad.Tie as tie
 

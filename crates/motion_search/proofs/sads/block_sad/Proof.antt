@@ -1,7 +1,7 @@
 -- `block_sad` meets its contract. Assumes nothing.
 use mathlib.Core.Path.{_∙_}
 use borrow.Author.Needs.{needs}
-use Rattle.motion_search.proofs.Rows.{rows-packed}
+use Rattle.search.proofs.Rows.{rows-packed}
 use Rattle.motion_search.proofs.sads.block_sad.Statement.{statement}
 use Rattle.motion_search.proofs.sads.block_sad.Tie as tie
 

@@ -2,9 +2,9 @@
 use mathlib.Core.Path.{ap, _∙_}
 use native.Mathlib.Omega.{arith}
 use borrow.Author.Needs.{needs}
-use Rattle.motion_search.specs.Sad.{sad16}
-use Rattle.motion_search.proofs.Accepted.{placed}
-use Rattle.motion_search.proofs.SadLaws.{fetched-is}
+use Rattle.search.specs.Sad.{sad16}
+use Rattle.search.proofs.Accepted.{placed}
+use Rattle.search.proofs.SadLaws.{fetched-is}
 use Rattle.motion_search.proofs.sads.fetched_sad.Statement.{statement}
 use Rattle.motion_search.proofs.sads.fetched_sad.Tie as tie
 

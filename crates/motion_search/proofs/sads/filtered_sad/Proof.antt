@@ -6,9 +6,9 @@ use mir.Syntax.{w16}
 use mir.Val.{SFits}
 use mir.Facts.{toZ-ofZ}
 use Rattle.prediction.specs.Vector.{fractionOf}
-use Rattle.motion_search.specs.Sad.{sad16}
-use Rattle.motion_search.proofs.Accepted.{placed}
-use Rattle.motion_search.proofs.SadLaws.{fetched-is, filtered-is, predicted-is}
+use Rattle.search.specs.Sad.{sad16}
+use Rattle.search.proofs.Accepted.{placed}
+use Rattle.search.proofs.SadLaws.{fetched-is, filtered-is, predicted-is}
 use Rattle.motion_search.proofs.sads.filtered_sad.Statement.{statement}
 use Rattle.motion_search.proofs.sads.filtered_sad.Tie as tie
 

@@ -7,7 +7,7 @@ use borrow.Author.Needs.{needs}
 use lib.ListN.{length}
 use Rattle.laws.specs.Sums.{sumBelow, sum-none}
 use Rattle.laws.specs.Slices.{mid-long}
-use Rattle.motion_search.proofs.Rows.{row-ends, apart, rows-more}
+use Rattle.search.proofs.Rows.{row-ends, apart, rows-more}
 use Rattle.motion_search.proofs.sads.rows_sad.Statement.{statement}
 use Rattle.motion_search.proofs.sads.rows_sad.Tie as tie
 

@@ -4,7 +4,7 @@ use Prim.Native.Nat.{ℕ, _+_, _*_, _-_, _≤_}
 use native.Mathlib.Omega.{arith}
 use borrow.Author.Needs.{needs}
 use Rattle.laws.specs.Sums.{sumBelow, sum-none, sum-more}
-use Rattle.motion_search.specs.Conditions.{twoApart}
+use Rattle.search.specs.Conditions.{twoApart}
 use Rattle.motion_search.proofs.sads.two_rows_sad.Statement.{statement}
 use Rattle.motion_search.proofs.sads.two_rows_sad.Tie as tie
 

@@ -8,10 +8,10 @@ use mir.Syntax.{w16}
 use mir.Val.{SFits}
 use mir.Facts.{toZ-ofZ}
 use Rattle.prediction.specs.declared.motion_vector.Mv.{Mv}
-use Rattle.motion_search.specs.Sad.{sad16}
-use Rattle.motion_search.specs.Conditions.{copiedAt, Inside}
-use Rattle.motion_search.proofs.Accepted.{placed}
-use Rattle.motion_search.proofs.SadLaws.{cost-copied, sad-inside, ends-inside}
+use Rattle.search.specs.Sad.{sad16}
+use Rattle.search.specs.Conditions.{copiedAt, Inside}
+use Rattle.search.proofs.Accepted.{placed}
+use Rattle.search.proofs.SadLaws.{cost-copied, sad-inside, ends-inside}
 use Rattle.motion_search.proofs.sads.whole_sad.Statement.{statement}
 use Rattle.motion_search.proofs.sads.whole_sad.Tie as tie
 

@@ -4,7 +4,7 @@ use lib.IntN.{_+ℤ_}
 use mir.Syntax.{w16}
 use mir.Val.{SFits}
 use mir.Facts.{toZ-ofZ}
-use Rattle.motion_search.proofs.Grid.{grid-fits, near-fits}
+use Rattle.search.proofs.Grid.{grid-fits, near-fits}
 use Rattle.motion_search.proofs.vectors.neighbour.Statement.{statement}
 use Rattle.motion_search.proofs.vectors.neighbour.Tie as tie
 

@@ -6,9 +6,9 @@ use lib.IntN.{ℤ}
 use mir.Syntax.{w16}
 use mir.Facts.{toZ-ofZ}
 use Rattle.laws.specs.Signed.{back}
-use Rattle.motion_search.specs.Search.{stepTo, rasterOf}
-use Rattle.motion_search.proofs.Grid.{range-fits}
-use Rattle.motion_search.proofs.Refine.{place-most}
+use Rattle.search.specs.Search.{stepTo, rasterOf}
+use Rattle.search.proofs.Grid.{range-fits}
+use Rattle.search.proofs.Refine.{place-most}
 use borrow.Author.Needs.{needs}
 use Rattle.motion_search.proofs.vectors.raster_of.Statement.{statement}
 use Rattle.motion_search.proofs.vectors.raster_of.Tie as tie

@@ -1,0 +1,10 @@
+pub mod Worked
+pub mod Accepted
+pub mod Rows
+pub mod SadLaws
+pub mod Grid
+pub mod Checks
+pub mod Descent
+pub mod Steps
+pub mod Luma
+pub mod Refine
