@@ -1,3 +1,4 @@
+pub mod Worked
 pub mod Planes
 pub mod Gates
 pub mod Raise

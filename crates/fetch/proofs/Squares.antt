@@ -15,7 +15,7 @@ use mir.Syntax.{w16}
 use mir.Val.{SFits}
 use Rattle.laws.specs.Signed.{above, below, range, floor, Less, less-of, less-pos, less-sum, less-diff, above-less}
 use Rattle.laws.specs.Tabulate.{tabulate, tabulate-same, Filling, fill-at, fill-turn}
-use Rattle.laws.specs.Outcome.{Outcome, refused, accepted, Line, firstOf, skipped, or-none}
+use Rattle.laws.specs.Outcome.{Outcome, refused, accepted, Line, firstOf, after, accepted-same, never, skipped, or-none}
 use Rattle.prediction.specs.declared.motion_vector.Mv.{Mv}
 use Rattle.fetch.specs.declared.FetchAnswer.{FetchAnswer}
 use Rattle.fetch.specs.declared.FetchAnswer.the-variants.{Fetched, BadSize, ShortPlane, BadOrigin}
@@ -24,7 +24,7 @@ use Rattle.prediction.specs.Vector.{wholeOf}
 use Rattle.prediction.specs.Plane.{Plane, lumaPlane, sampleAt, nearestIn}
 use Rattle.prediction.specs.Prediction.{squareOf, offsetBy}
 use Rattle.prediction.specs.Refusals.{badSide, blockOf}
-use Rattle.fetch.specs.Refusals.{fetchLines, fetchOutcome, FetchIs}
+use Rattle.fetch.specs.Refusals.{fetchLines, fetchOutcome, FetchIs, FillIs}
 use Rattle.fetch.specs.Internal.{entry, Inside, Decides}
 
 -- place k of row r
@@ -138,28 +138,38 @@ unfolding entry squareOf sampleAt
 square-is n d p x y column row v fr fc ec er =
     tabulate-same (n * n) _ _ (λ i l. rw (biased d x column (i % n) (v .col) fc ec, biased d y row (i / n) (v .row) fr er))
 
--- an answer that is not `Fetched` has zeros beside it
-module _ (lines : List Line) (a : FetchAnswer) (b : List ℕ) (n : ℕ) (decides : Decides lines a) where
-  zeros : (o : FetchAnswer) → a ≡ o → OneOf (1 ∷ 2 ∷ 3 ∷ []) (tagOf the-type o) → replicate n 0 ≡ blockOf n (fetchOutcome o b)
-  zeros Fetched e k = absurd (miss (1 ∷ 2 ∷ 3 ∷ []) 0 tt k)
-  zeros BadSize e k = refl
-  zeros ShortPlane e k = refl
-  zeros BadOrigin e k = refl
+-- what a lent array holds after a fetch
+unchanged : (o : Outcome (List ℕ)) (old : List ℕ) → old ≡ after o old old
+unchanged (refused k v) old = refl
+unchanged (accepted b) old = refl
 
-  outcomes : (o : FetchAnswer) → a ≡ o → OneOf (1 ∷ 2 ∷ 3 ∷ []) (tagOf the-type o) → fetchOutcome o (replicate n 0) ≡ fetchOutcome o b
-  outcomes Fetched e k = absurd (miss (1 ∷ 2 ∷ 3 ∷ []) 0 tt k)
-  outcomes BadSize e k = refl
-  outcomes ShortPlane e k = refl
-  outcomes BadOrigin e k = refl
+module _ (lines : List Line) (a : FetchAnswer) (b : List ℕ) (decides : Decides lines a) where
+  refused-alike : (o : FetchAnswer) → OneOf (1 ∷ 2 ∷ 3 ∷ []) (tagOf the-type o) → (old : List ℕ) → fetchOutcome o old ≡ fetchOutcome o b
+  refused-alike Fetched k old = absurd (miss (1 ∷ 2 ∷ 3 ∷ []) 0 tt k)
+  refused-alike BadSize k old = refl
+  refused-alike ShortPlane k old = refl
+  refused-alike BadOrigin k old = refl
 
-  pub fetch-refused : OneOf (1 ∷ 2 ∷ 3 ∷ []) (tagOf the-type a) → FetchIs (firstOf lines b) n a (replicate n 0)
-  fetch-refused k =
-      record { outcome = outcomes a refl k ∙ decides b; beside = zeros a refl k ∙ ap (blockOf n) (decides b) }
-
-  pub fetch-accepted : (r : List ℕ) → a ≡ Fetched → r ≡ b → FetchIs (firstOf lines b) n a r
-  fetch-accepted r e f =
-      let g : accepted b ≡ firstOf lines b = ap (λ (o : FetchAnswer). fetchOutcome o b) (sym e) ∙ decides b in
-      record { outcome = ap (fetchOutcome a) f ∙ decides b; beside = f ∙ ap (blockOf n) g }
+  pub fill-refused : (old : List ℕ) → OneOf (1 ∷ 2 ∷ 3 ∷ []) (tagOf the-type a) → FillIs (firstOf lines b) a old old
+  fill-refused old k = record { outcome = refused-alike a k old ∙ decides b; kept = unchanged (firstOf lines b) old }
 
   pub fetch-legal : a ≡ Fetched → firstOf lines b ≡ accepted b
   fetch-legal e = sym (decides b) ∙ ap (λ (o : FetchAnswer). fetchOutcome o b) e
+
+  pub fill-accepted : (old r : List ℕ) → a ≡ Fetched → r ≡ b → FillIs (firstOf lines b) a old r
+  fill-accepted old r e f =
+      record { outcome = ap (fetchOutcome a) f ∙ decides b; kept = ap (λ (o : Outcome (List ℕ)). after o old r) (sym (fetch-legal e)) }
+
+-- an array of zeros that was lent is the block beside the answer
+pub fetched : (a : FetchAnswer) (held b : List ℕ) → fetchOutcome a held ≡ accepted b → held ≡ b
+fetched Fetched held b e = accepted-same held b e
+fetched BadSize held b e = absurd (never _ _ b e)
+fetched ShortPlane held b e = absurd (never _ _ b e)
+fetched BadOrigin held b e = absurd (never _ _ b e)
+
+beside-of : (o : Outcome (List ℕ)) (a : FetchAnswer) (n : ℕ) (held : List ℕ) → fetchOutcome a held ≡ o → held ≡ after o (replicate n 0) held → held ≡ blockOf n o
+beside-of (refused k v) a n held e h = h
+beside-of (accepted b) a n held e h = fetched a held b e
+
+pub by-value : (o : Outcome (List ℕ)) (a : FetchAnswer) (n : ℕ) (held : List ℕ) → FillIs o a (replicate n 0) held → FetchIs o n a held
+by-value o a n held f = record { outcome = f .outcome; beside = beside-of o a n held (f .outcome) (f .kept) }

@@ -2,7 +2,7 @@
 use mathlib.Core.Path.{_≡_}
 use mathlib.Core.List.{List, [], _∷_}
 use Prim.Native.Nat.{ℕ}
-use Rattle.laws.specs.Outcome.{Outcome, refused, accepted, Line, line, firstOf}
+use Rattle.laws.specs.Outcome.{Outcome, refused, accepted, Line, line, firstOf, after}
 use Rattle.prediction.specs.declared.motion_vector.Mv.{Mv}
 use Rattle.prediction.specs.Plane.{Plane, sampleAt}
 use Rattle.prediction.specs.Prediction.{macroblockOf, haloOf, offsetBy}
@@ -31,3 +31,8 @@ fetchOutcome BadOrigin block = refused 10 []
 pub record FetchIs (expected : Outcome (List ℕ)) (n : ℕ) (answer : FetchAnswer) (block : List ℕ) : Type 0 where
   pub outcome : fetchOutcome answer block ≡ expected
   pub beside : block ≡ blockOf n expected
+
+-- what a fetch into a lent array promises: the outcome, and that the array is kept where the fetch refuses
+pub record FillIs (expected : Outcome (List ℕ)) (answer : FetchAnswer) (old held : List ℕ) : Type 0 where
+  pub outcome : fetchOutcome answer held ≡ expected
+  pub kept : held ≡ after expected old held

@@ -5,13 +5,13 @@ ghost use mathlib.Core.Path.{_≡_};
 ghost use mathlib.Core.Bool.{true, _||_};
 ghost use Prim.Native.Nat.{_+_, _-_, _*_, _≤_, _<_, min};
 ghost use lib.Dec.{ltb};
-ghost use lib.ListN.{length};
+ghost use lib.ListN.{length, getD};
 ghost use Rattle.laws.specs.Signed.{above, below};
 ghost use Rattle.laws.specs.Tabulate.{Filling, tabulate};
 ghost use Rattle.prediction.specs.Vector.{wholeOf};
 ghost use Rattle.prediction.specs.Plane.{lumaPlane};
 ghost use Rattle.prediction.specs.Refusals.{badSide, badOrigin};
-ghost use Rattle.fetch.specs.Refusals.{fetchLines, macroblockAt, haloAt, FetchIs};
+ghost use Rattle.fetch.specs.Refusals.{fetchLines, macroblockAt, haloAt, FetchIs, FillIs};
 ghost use Rattle.fetch.specs.Internal.{entry, Inside, Decides};
 
 // A fetched block, or why a fetch is refused.
@@ -220,9 +220,23 @@ fn square(
     }
 }
 
+// A row of a halo, by itself: the compiler then knows that nothing else is written.
+fn row_at(plane: &[u8], from: usize) -> [u8; 21]
+    requires { ⌜ from + 21 ≤ length (now plane) ⌝ }
+    ensures { λ r. ⌜ r ≡ tabulate 21 (λ k. getD (now (plane .entry)) (from + k) 0) ⌝ }
+{
+    let mut row = [0u8; 21];
+    let mut k = 0;
+    while k < 21 {
+        row[k] = plane[from + k];
+        k += 1;
+    }
+    row
+}
+
 // Row r of a halo that lies in the plane.
 fn halo_row(
-    out: &mut [u8; 441],
+    out: &mut [u8],
     r: usize,
     plane: &[u8],
     stride: usize,
@@ -237,53 +251,79 @@ fn halo_row(
     ensures { λ _. ⌜ Filling (entry 21 4098 (lumaPlane (now (plane .entry)) stride width height) x y) 441 (now (out .exit)) (r * 21 + 21) ⌝ }
 {
     let from = (y - 4098 + r) * stride + (x - 4098);
+    let row = row_at(plane, from);
     for k in 0..21 {
-        out[r * 21 + k] = plane[from + k];
+        out[r * 21 + k] = row[k];
     }
 }
 
-// A halo that lies in the plane: rows of a size that the compiler knows, into an array of its own.
+// A halo that lies in the plane: rows of a size that the compiler knows.
 fn halo_inside(
+    out: &mut [u8],
     plane: &[u8],
     stride: usize,
     width: usize,
     height: usize,
     x: usize,
     y: usize,
-) -> [u8; 441]
+)
     requires { ⌜ (x < 32768) × (y < 32768) × Inside 21 4098 width height x y ⌝ }
     requires { ⌜ (height - 1) * stride + width ≤ length (now plane) ⌝ }
-    ensures { λ r. ⌜ r ≡ tabulate 441 (entry 21 4098 (lumaPlane (now (plane .entry)) stride width height) x y) ⌝ }
+    requires { ⌜ length (now out) ≡ 441 ⌝ }
+    ensures { λ _. ⌜ now (out .exit) ≡ tabulate 441 (entry 21 4098 (lumaPlane (now (plane .entry)) stride width height) x y) ⌝ }
 {
-    let mut out = [0u8; 441];
     for r in 0..21 {
-        halo_row(&mut out, r, plane, stride, width, height, x, y);
+        halo_row(out, r, plane, stride, width, height, x, y);
     }
-    out
 }
 
 // The halo from column x - 4098 and row y - 4098 on.
 fn halo_at(
+    out: &mut [u8],
     plane: &[u8],
     stride: usize,
     width: usize,
     height: usize,
     x: usize,
     y: usize,
-) -> [u8; 441]
+)
     requires { ⌜ (0 < width) × (0 < height) × (x < 32768) × (y < 32768) ⌝ }
     requires { ⌜ (height - 1) * stride + width ≤ length (now plane) ⌝ }
-    ensures { λ r. ⌜ r ≡ tabulate 441 (entry 21 4098 (lumaPlane (now (plane .entry)) stride width height) x y) ⌝ }
+    requires { ⌜ length (now out) ≡ 441 ⌝ }
+    ensures { λ _. ⌜ now (out .exit) ≡ tabulate 441 (entry 21 4098 (lumaPlane (now (plane .entry)) stride width height) x y) ⌝ }
 {
     if lies_inside(21, 4098, width, height, x, y) {
-        return halo_inside(plane, stride, width, height, x, y);
+        halo_inside(out, plane, stride, width, height, x, y);
+        return;
     }
-    let mut halo = [0u8; 441];
-    square(&mut halo, 21, 4098, plane, stride, width, height, x, y);
-    halo
+    square(out, 21, 4098, plane, stride, width, height, x, y);
 }
 
-// The macroblock at a pixel origin, moved by the whole offset of a vector in eighths.
+// The macroblock at a pixel origin, moved by the whole offset of a vector in eighths, into a lent array.
+pub fn fill_luma_mb_whole_pixel(
+    plane: &[u8],
+    stride: usize,
+    width: usize,
+    height: usize,
+    x: usize,
+    y: usize,
+    mv: Mv,
+    block: &mut [u8; 256],
+) -> FetchAnswer
+    ensures { λ r. ⌜ FillIs (macroblockAt (lumaPlane (now (plane .entry)) stride width height) x y mv) r (now (block .entry)) (now (block .exit)) ⌝ }
+{
+    let answer = fetch_answer(plane, stride, width, height, x, y);
+    if let FetchAnswer::Fetched = answer {
+        let column = moved(x, mv.col);
+        let row = moved(y, mv.row);
+        square(block, 16, 4096, plane, stride, width, height, column, row);
+        answer
+    } else {
+        answer
+    }
+}
+
+// The same by value.
 pub fn fetch_luma_mb_whole_pixel(
     plane: &[u8],
     stride: usize,
@@ -295,35 +335,39 @@ pub fn fetch_luma_mb_whole_pixel(
 ) -> FetchedMb
     ensures { λ r. ⌜ FetchIs (macroblockAt (lumaPlane (now (plane .entry)) stride width height) x y mv) 256 (r .answer) (r .block) ⌝ }
 {
+    let mut block = [0u8; 256];
+    let answer = fill_luma_mb_whole_pixel(plane, stride, width, height, x, y, mv, &mut block);
+    FetchedMb {
+        answer: answer,
+        block: block,
+    }
+}
+
+// The halo of that macroblock, which starts two samples left and above, into a lent array.
+pub fn fill_luma_mb_halo(
+    plane: &[u8],
+    stride: usize,
+    width: usize,
+    height: usize,
+    x: usize,
+    y: usize,
+    mv: Mv,
+    halo: &mut [u8; 441],
+) -> FetchAnswer
+    ensures { λ r. ⌜ FillIs (haloAt (lumaPlane (now (plane .entry)) stride width height) x y mv) r (now (halo .entry)) (now (halo .exit)) ⌝ }
+{
     let answer = fetch_answer(plane, stride, width, height, x, y);
     if let FetchAnswer::Fetched = answer {
         let column = moved(x, mv.col);
         let row = moved(y, mv.row);
-        let mut block = [0u8; 256];
-        square(
-            &mut block,
-            16,
-            4096,
-            plane,
-            stride,
-            width,
-            height,
-            column,
-            row,
-        );
-        FetchedMb {
-            answer: answer,
-            block: block,
-        }
+        halo_at(halo, plane, stride, width, height, column, row);
+        answer
     } else {
-        FetchedMb {
-            answer: answer,
-            block: [0u8; 256],
-        }
+        answer
     }
 }
 
-// The halo of that macroblock: it starts two samples left and above.
+// The same by value.
 pub fn fetch_luma_mb_halo(
     plane: &[u8],
     stride: usize,
@@ -335,19 +379,10 @@ pub fn fetch_luma_mb_halo(
 ) -> FetchedHalo
     ensures { λ r. ⌜ FetchIs (haloAt (lumaPlane (now (plane .entry)) stride width height) x y mv) 441 (r .answer) (r .halo) ⌝ }
 {
-    let answer = fetch_answer(plane, stride, width, height, x, y);
-    if let FetchAnswer::Fetched = answer {
-        let column = moved(x, mv.col);
-        let row = moved(y, mv.row);
-        let halo = halo_at(plane, stride, width, height, column, row);
-        FetchedHalo {
-            answer: answer,
-            halo: halo,
-        }
-    } else {
-        FetchedHalo {
-            answer: answer,
-            halo: [0u8; 441],
-        }
+    let mut halo = [0u8; 441];
+    let answer = fill_luma_mb_halo(plane, stride, width, height, x, y, mv, &mut halo);
+    FetchedHalo {
+        answer: answer,
+        halo: halo,
     }
 }

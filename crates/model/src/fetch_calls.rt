@@ -47,13 +47,8 @@ pub extern "C" fn vp8model_fetch_luma_mb_whole_pixel(
         row: mv_row,
         col: mv_col,
     };
-    let made = fetch::fetch_luma_mb_whole_pixel(plane, stride, width, height, x, y, mv);
-    let answer = made.answer;
+    let answer = fetch::fill_luma_mb_whole_pixel(plane, stride, width, height, x, y, mv, block);
     let number = numbers::fetch_number(answer);
-    if number == 0 {
-        let filled = made.block;
-        *block = filled;
-    }
     Status { refusal: number }
 }
 
@@ -79,12 +74,7 @@ pub extern "C" fn vp8model_fetch_luma_mb_halo(
         row: mv_row,
         col: mv_col,
     };
-    let made = fetch::fetch_luma_mb_halo(plane, stride, width, height, x, y, mv);
-    let answer = made.answer;
+    let answer = fetch::fill_luma_mb_halo(plane, stride, width, height, x, y, mv, halo);
     let number = numbers::fetch_number(answer);
-    if number == 0 {
-        let filled = made.halo;
-        *halo = filled;
-    }
     Status { refusal: number }
 }

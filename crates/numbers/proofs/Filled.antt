@@ -1,12 +1,12 @@
 -- Calls that fill an array: where one is accepted the block is stored, where it is refused the array is kept. Assumes nothing.
-use mathlib.Core.Path.{_≡_, sym, ap, _∙_}
+use mathlib.Core.Path.{_≡_, refl, sym, ap, _∙_}
 use mathlib.Core.List.{List, []}
 use Prim.Native.Nat.{ℕ}
-use native.Mathlib.Omega.{arith}
 use Rattle.laws.specs.Outcome.{Outcome, refused, accepted, Line, firstOf, after, answered}
 use Rattle.fetch.specs.declared.FetchAnswer.{FetchAnswer}
 use Rattle.fetch.specs.declared.FetchAnswer.the-variants.{Fetched, BadSize, ShortPlane, BadOrigin}
-use Rattle.fetch.specs.Refusals.{fetchOutcome}
+use Rattle.fetch.specs.Refusals.{fetchOutcome, FillIs}
+use Rattle.fetch.proofs.Squares.{fetched}
 use Rattle.numbers.specs.Answers.{numberOf, statusNumbers, Fills}
 
 module _ (lines : List Line) (block old : List ℕ) where
@@ -24,17 +24,21 @@ module _ (lines : List Line) (block old : List ℕ) where
         array = ap (λ (o : Outcome (List ℕ)). after o old block) e;
       }
 
-  -- the two ways out of a fetch, whose number is 0 where it is accepted
-  pub fetch-stored : (a : FetchAnswer) (made : List ℕ) (n : ℕ) → fetchOutcome a made ≡ firstOf lines block
-      → n ≡ numberOf (fetchOutcome a []) → n ≡ 0 → Fills lines block old (record { refusal = n }) made
-  fetch-stored Fetched made n e p z = rw p (stored made e)
-  fetch-stored BadSize made n e p z = absurd (omega arith)
-  fetch-stored ShortPlane made n e p z = absurd (omega arith)
-  fetch-stored BadOrigin made n e p z = absurd (omega arith)
+-- a fetch into the array itself
+same-number : (a : FetchAnswer) (held : List ℕ) → numberOf (fetchOutcome a []) ≡ numberOf (fetchOutcome a held)
+same-number Fetched held = refl
+same-number BadSize held = refl
+same-number ShortPlane held = refl
+same-number BadOrigin held = refl
 
-  pub fetch-kept : (a : FetchAnswer) (made : List ℕ) (n : ℕ) → fetchOutcome a made ≡ firstOf lines block
-      → n ≡ numberOf (fetchOutcome a []) → (n ≡ 0 → ⊥) → Fills lines block old (record { refusal = n }) old
-  fetch-kept Fetched made n e p z = absurd (z p)
-  fetch-kept BadSize made n e p z = rw p (kept 8 [] e)
-  fetch-kept ShortPlane made n e p z = rw p (kept 9 [] e)
-  fetch-kept BadOrigin made n e p z = rw p (kept 10 [] e)
+module _ (lines : List Line) (block old held : List ℕ) (a : FetchAnswer) (f : FillIs (firstOf lines block) a old held) where
+  array-of : (o : Outcome (List ℕ)) → firstOf lines block ≡ o → fetchOutcome a held ≡ o → held ≡ after o old held → held ≡ after o old block
+  array-of (refused k v) p e h = h
+  array-of (accepted b) p e h = fetched a held b e ∙ sym (answered lines block b p)
+
+  pub fetch-fills : (n : ℕ) → n ≡ numberOf (fetchOutcome a []) → Fills lines block old (record { refusal = n }) held
+  fetch-fills n e =
+      record {
+        status = ap (λ (k : ℕ). record { refusal = k }) (e ∙ same-number a held ∙ ap (λ (o : Outcome (List ℕ)). numberOf o) (f .outcome));
+        array = array-of (firstOf lines block) refl (f .outcome) (f .kept);
+      }

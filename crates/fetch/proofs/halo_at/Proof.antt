@@ -8,17 +8,20 @@ lies-inside-requires c κs = search needs
 
 halo-inside-requires : tie.Need-halo-inside-requires
 halo-inside-requires c κs =
-    let s = c .before .before .before in
-    ((s .pre .0 .2, s .pre .0 .3, c .before .lies-inside .ensures (c .if1 .taken)), s .pre .1)
+    let s = c .before .before .before .before .before in
+    ((s .pre .0 .2, s .pre .0 .3, c .before .before .lies-inside .ensures (c .before .if1 .taken)), (s .pre .1 .0, s .pre .1 .1))
+
+same-length : tie.Need-same-length
+same-length c = search needs
 
 returns : tie.Need-returns
 returns c = search needs
 
-slice-aggregate-square : tie.Need-slice-aggregate-square
-slice-aggregate-square c = search needs
-
 square-requires : tie.Need-square-requires
 square-requires c κs = search needs
+
+same-length-2 : tie.Need-same-length-2
+same-length-2 c = search needs
 
 returns-2 : tie.Need-returns-2
 returns-2 c = search needs
@@ -29,7 +32,8 @@ halo-at-spec =
     (tie.spec
     lies-inside-requires
     halo-inside-requires
+    same-length
     returns
-    slice-aggregate-square
     square-requires
+    same-length-2
     returns-2)
