@@ -38,16 +38,9 @@ fn byte_at(bytes: &[u8], at: usize) -> u8 {
     if at < bytes.len() { bytes[at] } else { 0 }
 }
 
-// The number at an index from 0 to 17: eight bytes, the lowest first.
+// The number at an index from 0 to 17.
 pub fn number(record: &[u8; 144], index: usize) -> usize {
-    if 17 < index {
-        return 0;
-    }
-    let mut n: usize = 0;
-    for k in 0..8usize {
-        n = n % 72057594037927936 * 256 + wide(record[index * 8 + 7 - k]);
-    }
-    n
+    stored::number(record, index)
 }
 
 // A number of a record that is below 2^20.

@@ -1,33 +1,10 @@
 // The numbers of a record, and what they stand for.
-ghost use Prim.Native.Nat.{_<_};
 use prediction::motion_comp::stored_luma_mv;
 use prediction::motion_vector::Mv;
 
-fn wide(b: u8) -> usize
-    ensures { λ r. ⌜ r < 256 ⌝ }
-{
-    b as usize
-}
-
-// Four bytes, the lowest first.
-fn word(header: &[u8; 80], at: usize) -> usize
-    ensures { λ r. ⌜ r < 4294967296 ⌝ }
-{
-    if 76 < at {
-        return 0;
-    }
-    wide(header[at])
-        + wide(header[at + 1]) * 256
-        + wide(header[at + 2]) * 65536
-        + wide(header[at + 3]) * 16777216
-}
-
 // The number at an index from 0 to 9.
 pub fn number(header: &[u8; 80], index: usize) -> usize {
-    if 9 < index {
-        return 0;
-    }
-    word(header, index * 8) + word(header, index * 8 + 4) * 4294967296
+    stored::number(header, index)
 }
 
 pub fn byte(n: usize) -> u8 {

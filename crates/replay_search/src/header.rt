@@ -1,28 +1,14 @@
 // The numbers of a record, and what they stand for.
-ghost use Prim.Native.Nat.{_<_};
 use prediction::motion_vector::Mv;
-
-fn wide(b: u8) -> usize
-    ensures { λ r. ⌜ r < 256 ⌝ }
-{
-    b as usize
-}
 
 // A byte; 0 past the end.
 pub fn byte_at(bytes: &[u8], at: usize) -> u8 {
     if at < bytes.len() { bytes[at] } else { 0 }
 }
 
-// The number at an index from 0 to 15: eight bytes, the lowest first.
+// The number at an index from 0 to 15.
 pub fn number(record: &[u8; 128], index: usize) -> usize {
-    if 15 < index {
-        return 0;
-    }
-    let mut n: usize = 0;
-    for k in 0..8usize {
-        n = n % 72057594037927936 * 256 + wide(record[index * 8 + 7 - k]);
-    }
-    n
+    stored::number(record, index)
 }
 
 // A 32-bit number.
