@@ -1,10 +1,12 @@
 -- Claims of document 01 on the grid, the block search and the sizes of sums and totals, each a law. Assumes nothing.
 use mathlib.Core.Path.{_≡_, refl, sym, subst⁻¹}
+use mathlib.Core.Bool.{true, false}
 use mathlib.Core.List.{List, [], _∷_, _++_}
 use mathlib.Core.Logic.{⊎-elim}
 use Prim.Native.Nat.{ℕ, zero, suc, _+_, _*_, _/_, _≤_, _<_}
 use native.Mathlib.Nat.{le-trans}
 use native.Mathlib.Omega.{arith}
+use borrow.Author.Tests.{lt-ltb, le-ltb}
 use lib.IntN.{ℤ}
 use lib.ListN.{length, getD}
 use Rattle.laws.specs.Signed.{above, below, quot}
@@ -19,7 +21,7 @@ use Rattle.denoiser.specs.declared.Block.{Block}
 use Rattle.denoiser.specs.declared.Shift.{Shift}
 use Rattle.denoiser.specs.Grid.{gridBlock, gridSide, blockIn, unitOf}
 use Rattle.denoiser.specs.Search.{still, neighbourOf, stepBest, blockSearch, shiftIn}
-use Rattle.denoiser.specs.Window.{totalAt, sumAt, arnrRule}
+use Rattle.denoiser.specs.Window.{totalAt, sumAt, sadAccepted, arnrRule}
 use Rattle.denoiser.specs.Build.{BuildInput, givenOf, sceneOf, windowOf}
 use Rattle.denoiser.specs.Internal.{Reach, Short}
 use Rattle.denoiser.proofs.Answers.{legal}
@@ -197,3 +199,10 @@ pub record Halves (v half : ℤ) : Type 0 where
 pub chroma-halves : (k : ℕ) (d : Shift) → Halves (d .dx) (shiftIn (suc k) d .dx) × Halves (d .dy) (shiftIn (suc k) d .dy)
 chroma-halves k d =
     (record { up = quot (d .dx) 2 .up; dn = quot (d .dx) 2 .dn }, record { up = quot (d .dy) 2 .up; dn = quot (d .dy) 2 .dn })
+
+-- a block is accepted below 13 times its area, and excluded from there on
+pub accepted-below : (b : Block) (sad : ℕ) → sad < 13 * (b .columns * b .rows) → sadAccepted b sad ≡ true
+accepted-below b sad h = lt-ltb sad (13 * (b .columns * b .rows)) h
+
+pub excluded-from : (b : Block) (sad : ℕ) → 13 * (b .columns * b .rows) ≤ sad → sadAccepted b sad ≡ false
+excluded-from b sad h = le-ltb sad (13 * (b .columns * b .rows)) h

@@ -1,4 +1,3 @@
-pub mod Worked
 pub mod Planes
 pub mod Gates
 pub mod Raise
