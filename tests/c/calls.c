@@ -319,6 +319,9 @@ static void plane_refusals(void)
     CHECK(vp8model_short_plane(16, SIZE_MAX, 16, 1) == 0);
     CHECK(vp8model_short_plane(16, SIZE_MAX, 16, 2) == 1);
     CHECK(vp8model_short_plane(16, 0, 16, 16383) == 0);
+    /* height 0 counts as one row */
+    CHECK(vp8model_short_plane(16, SIZE_MAX, 16, 0) == 0);
+    CHECK(vp8model_short_plane(15, SIZE_MAX, 16, 0) == 1);
 }
 
 /* A plane of 48 by 48 whose sample at column x and row y is x + 3 y. */
@@ -594,8 +597,12 @@ static void frames_as_numbers(void)
     vp8model_frame f = vp8model_frame_at(at_words(&numbers), 15, 1);
     CHECK(f.width == 107 && f.height == 108 && f.y == 109 && f.u == 110 && f.v == 111);
     CHECK(f.luma_stride == 112 && f.chroma_stride == 113);
+    /* numbers left over are not read: from the frame count on, the frame of zeros */
     f = vp8model_frame_at(at_words(&numbers), 15, 2);
-    CHECK(f.width == 114 && f.height == 0 && f.y == 0 && f.u == 0 && f.v == 0);
+    CHECK(f.width == 0 && f.height == 0 && f.y == 0 && f.u == 0 && f.v == 0);
+    CHECK(f.luma_stride == 0 && f.chroma_stride == 0);
+    f = vp8model_frame_at(at_words(&numbers), 13, 1);
+    CHECK(f.width == 0 && f.height == 0 && f.y == 0 && f.u == 0 && f.v == 0);
     CHECK(f.luma_stride == 0 && f.chroma_stride == 0);
     f = vp8model_frame_at(at_words(&numbers), 15, SIZE_MAX);
     CHECK(f.width == 0 && f.chroma_stride == 0);

@@ -10,8 +10,9 @@ use lib.Dec.{leb}
 use lib.ListN.{length, take, drop, set, getD, replicate, length-replicate, length-append}
 use lib.Seq.{sets, sets-eq, length-sets, take-at, take-suc, take-length, length-take-le}
 use Rattle.window.specs.declared.Frame.{Frame}
-use Rattle.window.specs.Frames.{numbersPerFrame}
-use Rattle.altref.specs.Records.{maxFrames, arraySize, zeroFrame, numbersOf, flat, putAt, filled, takenOf, Begins}
+use Rattle.window.specs.Frames.{numbersPerFrame, zeroFrame}
+use Rattle.altref.specs.Records.{numbersOf, flat}
+use Rattle.altref.specs.Internal.{maxFrames, arraySize, putAt, filled, takenOf, Begins}
 
 -- numbers put one by one are set as a list
 put-sets : (ns xs : List ℕ) (k : ℕ) → putAt xs k ns ≡ sets xs k ns

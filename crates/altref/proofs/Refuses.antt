@@ -8,6 +8,7 @@ use borrow.Author.Tests.{le-leb, lt-leb, lt-ltb}
 use lib.Dec.{leb, ltb}
 use lib.ListN.{length}
 use Rattle.laws.specs.Outcome.{Outcome, refused, accepted, after}
+use Rattle.laws.proofs.Outcome.{never}
 use Rattle.window.specs.declared.Refusal.{Refusal}
 use Rattle.window.specs.declared.Refusal.the-variants.{NoCentre, TooManyFrames}
 use Rattle.window.specs.Frames.{numbersPerFrame, frameCount}
@@ -17,11 +18,8 @@ use Rattle.denoiser.specs.declared.BuildAnswer.{BuildAnswer}
 use Rattle.denoiser.specs.declared.BuildAnswer.the-variants.{Refused}
 use Rattle.denoiser.specs.Window.{arnrRule}
 use Rattle.denoiser.specs.Demand.{Held}
-use Rattle.denoiser.specs.Build.{asked, BuildInput, BuildIs, outcomeOf, outputAfter, workingAfter, buildOutcome}
-use Rattle.altref.specs.Records.{maxFrames}
-
-never : {A : Type 0} (n : ℕ) (v : List ℕ) (x : A) → refused n v ≡ accepted x → ⊥
-never n v x e = let z : _≡_ {A = ℕ} 0 1 = cc in omega arith
+use Rattle.denoiser.specs.Build.{asked, BuildInput, BuildIs, outcomeOf, outputAfter, workingAfter}
+use Rattle.altref.specs.Internal.{maxFrames}
 
 unchanged : (o : Outcome Built) (n : ℕ) (v : List ℕ) (old new : List ℕ) → o ≡ refused n v → old ≡ after o old new
 unchanged o n v old new e = ap (λ (p : Outcome Built). after p old new) (sym e)
@@ -32,10 +30,13 @@ unfolding outputAfter workingAfter
 refuses b x n v is e =
     record {
       answer = is ∙ sym e;
-      output = unchanged (outcomeOf arnrRule b) n v (b .lent .output) _ e;
-      sums = unchanged (outcomeOf arnrRule b) n v (b .lent .sums) _ e;
-      weights = unchanged (outcomeOf arnrRule b) n v (b .lent .weights) _ e;
-      demand3 = λ a d. absurd (never n v a (sym is ∙ ap buildOutcome d));
+      slices =
+          record {
+            output = unchanged (outcomeOf arnrRule b) n v (b .lent .output) _ e;
+            sums = unchanged (outcomeOf arnrRule b) n v (b .lent .sums) _ e;
+            weights = unchanged (outcomeOf arnrRule b) n v (b .lent .weights) _ e;
+            demand3 = λ a d. absurd (never n v a (sym e ∙ d));
+          };
     }
 
 -- the numbers of `count` frames are `count` frames

@@ -9,7 +9,8 @@ ghost use Prim.Native.Nat.{ℕ, _<_, _≤_};
 ghost use lib.ListN.{length, replicate};
 ghost use Rattle.denoiser.specs.Demand.{Held};
 ghost use Rattle.denoiser.specs.Build.{asked, BuildInput, BuildIs};
-ghost use Rattle.altref.specs.Records.{maxFrames, arraySize, flat, putFrame, filled, takenOf, OverArray};
+ghost use Rattle.altref.specs.Records.{flat};
+ghost use Rattle.altref.specs.Internal.{maxFrames, arraySize, putFrame, filled, takenOf, OverArray};
 
 // The most frames that are not refused, and the numbers of so many.
 const MAX_FRAMES: usize = 1024;

@@ -2,9 +2,9 @@
 use crate::sad;
 use crate::search;
 use denoiser::Block;
+use denoiser::Displacement;
 use denoiser::Motion;
 use denoiser::PlaneNumbers;
-use denoiser::Shift;
 use prediction::inverse_transform;
 use window::Frame;
 ghost use mathlib.Core.Path.{_≡_};
@@ -16,8 +16,8 @@ ghost use Rattle.prediction.specs.Samples.{distance};
 ghost use Rattle.prediction.specs.Plane.{sampleAt};
 ghost use Rattle.window.specs.Layout.{sideOf, offsetOf, packedSize};
 ghost use Rattle.denoiser.specs.Grid.{gridBlock, gridSide, blockIn, unitOf};
-ghost use Rattle.denoiser.specs.Search.{displacedBy, shiftIn};
-ghost use Rattle.denoiser.specs.Window.{gate, costOf, shiftOf, sadAccepted, blockAccepted, acceptedIn};
+ghost use Rattle.denoiser.specs.Search.{displacedBy, displacementIn};
+ghost use Rattle.denoiser.specs.Window.{gate, costOf, displacementOf, sadAccepted, blockAccepted, acceptedIn};
 ghost use Rattle.denoiser.specs.Pictures.{pictureOf, othersOf};
 ghost use Rattle.denoiser.specs.Internal.{Fits, Whole, Short, Span, Lies, Lent, Room, Slack, Light, Frames, Measured, Raised, Placed, Spread, within, between, rowShare, rowTerm, shareBy, termBy, planeIn, packedPlane, numbersOf, packedPicture, packedScene, curveRule, curveShare, curveTerm};
 
@@ -71,7 +71,7 @@ fn blend_span(
     x: usize,
     y: usize,
     n: usize,
-    d: Shift,
+    d: Displacement,
     curve: &[u32; 256],
     at: usize,
     out: &[u8],
@@ -108,7 +108,7 @@ fn blend_block(
     bytes: &[u8],
     p: PlaneNumbers,
     b: Block,
-    d: Shift,
+    d: Displacement,
     curve: &[u32; 256],
     at: usize,
     out: &[u8],
@@ -223,16 +223,16 @@ fn block_in(k: usize, b: Block) -> Block
 }
 
 // A displacement in a plane: in U and V it is halved toward zero.
-fn shift_in(k: usize, d: Shift) -> Shift
+fn displacement_in(k: usize, d: Displacement) -> Displacement
     requires { ⌜ Short d ⌝ }
-    ensures { λ r. ⌜ (r ≡ shiftIn k d) × Short r ⌝ }
+    ensures { λ r. ⌜ (r ≡ displacementIn k d) × Short r ⌝ }
 {
     if k == 0 {
         return d;
     }
     let dx = d.dx / 2;
     let dy = d.dy / 2;
-    Shift { dx: dx, dy: dy }
+    Displacement { dx: dx, dy: dy }
 }
 
 // A block is excluded exactly when its SAD is at least 13 times its area.
@@ -249,7 +249,7 @@ fn blend_in(
     f: Frame,
     k: usize,
     b: Block,
-    d: Shift,
+    d: Displacement,
     curve: &[u32; 256],
     out: &[u8],
     sums: &mut [u32],
@@ -262,16 +262,16 @@ fn blend_in(
     requires { ⌜ Light (now curve) ⌝ }
     requires { ⌜ Slack 2 (now sums) (now weights) ⌝ }
     ensures { λ _. ⌜ Placed (offsetOf k (f .width) (f .height)) (sideOf k (f .width)) (sideOf k (f .height)) (λ x y. gate (within (blockIn k b) x y)
-        (termBy (now (curve .entry)) (packedPicture (f .width) (f .height) (now (out .entry)) k) (displacedBy (shiftIn k d) (pictureOf
+        (termBy (now (curve .entry)) (packedPicture (f .width) (f .height) (now (out .entry)) k) (displacedBy (displacementIn k d) (pictureOf
         (now (bytes .entry)) f k)) x y)) (now (sums .entry)) (now (sums .exit)) ⌝ }
     ensures { λ _. ⌜ Placed (offsetOf k (f .width) (f .height)) (sideOf k (f .width)) (sideOf k (f .height)) (λ x y. gate (within (blockIn k b) x y)
-        (shareBy (now (curve .entry)) (packedPicture (f .width) (f .height) (now (out .entry)) k) (displacedBy (shiftIn k d) (pictureOf
+        (shareBy (now (curve .entry)) (packedPicture (f .width) (f .height) (now (out .entry)) k) (displacedBy (displacementIn k d) (pictureOf
         (now (bytes .entry)) f k)) x y)) (now (weights .entry)) (now (weights .exit)) ⌝ }
 {
     let p = plane_of(f, k);
     let at = offset_of(f.width as usize, f.height as usize, k);
     let c = block_in(k, b);
-    let e = shift_in(k, d);
+    let e = displacement_in(k, d);
     blend_block(bytes, p, c, e, curve, at, out, sums, weights);
 }
 
@@ -280,7 +280,7 @@ fn blend_planes(
     bytes: &[u8],
     f: Frame,
     b: Block,
-    d: Shift,
+    d: Displacement,
     curve: &[u32; 256],
     out: &[u8],
     sums: &mut [u32],
@@ -293,10 +293,10 @@ fn blend_planes(
     requires { ⌜ Light (now curve) ⌝ }
     requires { ⌜ Slack 4 (now sums) (now weights) ⌝ }
     ensures { λ _. ⌜ Spread (f .width) (f .height) (λ k x y. gate (within (blockIn k b) x y) (termBy (now (curve .entry)) (packedPicture (f .width)
-        (f .height) (now (out .entry)) k) (displacedBy (shiftIn k d) (pictureOf (now (bytes .entry)) f k)) x y)) (now (sums .entry))
+        (f .height) (now (out .entry)) k) (displacedBy (displacementIn k d) (pictureOf (now (bytes .entry)) f k)) x y)) (now (sums .entry))
         (now (sums .exit)) ⌝ }
     ensures { λ _. ⌜ Spread (f .width) (f .height) (λ k x y. gate (within (blockIn k b) x y) (shareBy (now (curve .entry)) (packedPicture (f .width)
-        (f .height) (now (out .entry)) k) (displacedBy (shiftIn k d) (pictureOf (now (bytes .entry)) f k)) x y)) (now (weights .entry))
+        (f .height) (now (out .entry)) k) (displacedBy (displacementIn k d) (pictureOf (now (bytes .entry)) f k)) x y)) (now (weights .entry))
         (now (weights .exit)) ⌝ }
 {
     blend_in(bytes, f, 0, b, d, curve, out, sums, weights);
@@ -309,7 +309,7 @@ fn motion_at(bytes: &[u8], f: Frame, i: usize, j: usize, out: &[u8]) -> Motion
     requires { ⌜ Whole (now bytes) f ⌝ }
     requires { ⌜ (16 * i < f .height) × (16 * j < f .width) ⌝ }
     requires { ⌜ packedSize (f .width) (f .height) ≤ length (now out) ⌝ }
-    ensures { λ r. ⌜ Measured (costOf (packedScene (f .width) (f .height) (now (out .entry))) (pictureOf (now (bytes .entry)) f) i j) (shiftOf
+    ensures { λ r. ⌜ Measured (costOf (packedScene (f .width) (f .height) (now (out .entry))) (pictureOf (now (bytes .entry)) f) i j) (displacementOf
         (packedScene (f .width) (f .height) (now (out .entry))) (pictureOf (now (bytes .entry)) f) i j) r ⌝ }
 {
     let b = grid_block(f.width as usize, f.height as usize, i, j);
@@ -343,7 +343,7 @@ fn blend_at(
     let b = grid_block(f.width as usize, f.height as usize, i, j);
     let m = motion_at(bytes, f, i, j, out);
     if accepts(b, m.sad) {
-        blend_planes(bytes, f, b, m.shift, curve, out, sums, weights);
+        blend_planes(bytes, f, b, m.displacement, curve, out, sums, weights);
         1
     } else {
         0

@@ -1,7 +1,7 @@
 // Displaced samples, and the sum of absolute differences (SAD) of a block.
 use denoiser::Block;
+use denoiser::Displacement;
 use denoiser::PlaneNumbers;
-use denoiser::Shift;
 use prediction::inverse_transform;
 ghost use mathlib.Core.Path.{_≡_};
 ghost use mathlib.Core.Bool.{true};
@@ -29,7 +29,7 @@ fn edge(x: usize, d: i32, n: usize) -> usize
 }
 
 // A displaced sample of a plane.
-fn displaced(bytes: &[u8], p: PlaneNumbers, x: usize, y: usize, d: Shift) -> u8
+fn displaced(bytes: &[u8], p: PlaneNumbers, x: usize, y: usize, d: Displacement) -> u8
     requires { ⌜ Fits (now bytes) p ⌝ }
     requires { ⌜ (x < p .columns) × (y < p .rows) ⌝ }
     requires { ⌜ Short d ⌝ }
@@ -42,7 +42,14 @@ fn displaced(bytes: &[u8], p: PlaneNumbers, x: usize, y: usize, d: Shift) -> u8
 }
 
 // A row of n displaced samples, from (x, y) on, wherever they lie.
-fn edge_row(bytes: &[u8], p: PlaneNumbers, x: usize, y: usize, n: usize, d: Shift) -> [u8; 16]
+fn edge_row(
+    bytes: &[u8],
+    p: PlaneNumbers,
+    x: usize,
+    y: usize,
+    n: usize,
+    d: Displacement,
+) -> [u8; 16]
     requires { ⌜ Fits (now bytes) p ⌝ }
     requires { ⌜ Span (p .columns) (p .rows) x y n ⌝ }
     requires { ⌜ Short d ⌝ }
@@ -93,7 +100,7 @@ pub(crate) fn displaced_row(
     x: usize,
     y: usize,
     n: usize,
-    d: Shift,
+    d: Displacement,
 ) -> [u8; 16]
     requires { ⌜ Fits (now bytes) p ⌝ }
     requires { ⌜ Span (p .columns) (p .rows) x y n ⌝ }
@@ -176,7 +183,7 @@ fn span_sad(
     x: usize,
     y: usize,
     n: usize,
-    d: Shift,
+    d: Displacement,
     centre: &[u8],
 ) -> u32
     requires { ⌜ Fits (now bytes) p ⌝ }
@@ -193,7 +200,14 @@ fn span_sad(
 }
 
 // The SAD of a displaced block, wherever it lies, or a part of it that has reached the ceiling.
-fn edge_sad(bytes: &[u8], p: PlaneNumbers, b: Block, d: Shift, centre: &[u8], ceiling: u32) -> u32
+fn edge_sad(
+    bytes: &[u8],
+    p: PlaneNumbers,
+    b: Block,
+    d: Displacement,
+    centre: &[u8],
+    ceiling: u32,
+) -> u32
     requires { ⌜ Fits (now bytes) p ⌝ }
     requires { ⌜ Lies b (p .columns) (p .rows) ⌝ }
     requires { ⌜ Short d ⌝ }
@@ -275,7 +289,14 @@ fn placed_sad(
 }
 
 // The SAD of a block of 16 by 16: in bounds, row by row of 16; else by samples.
-fn square_sad(bytes: &[u8], p: PlaneNumbers, b: Block, d: Shift, centre: &[u8], ceiling: u32) -> u32
+fn square_sad(
+    bytes: &[u8],
+    p: PlaneNumbers,
+    b: Block,
+    d: Displacement,
+    centre: &[u8],
+    ceiling: u32,
+) -> u32
     requires { ⌜ Fits (now bytes) p ⌝ }
     requires { ⌜ (b .columns ≡ 16) × (b .rows ≡ 16) × Lies b (p .columns) (p .rows) ⌝ }
     requires { ⌜ Short d ⌝ }
@@ -311,7 +332,7 @@ pub(crate) fn block_sad(
     bytes: &[u8],
     p: PlaneNumbers,
     b: Block,
-    d: Shift,
+    d: Displacement,
     centre: &[u8],
     ceiling: u32,
 ) -> u32

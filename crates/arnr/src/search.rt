@@ -1,33 +1,44 @@
 // The block search: 33 comparisons, no displacement beyond 15.
 use crate::sad;
 use denoiser::Block;
+use denoiser::Displacement;
 use denoiser::Motion;
 use denoiser::PlaneNumbers;
-use denoiser::Shift;
 ghost use mathlib.Core.Path.{_≡_};
 ghost use Prim.Native.Nat.{ℕ, _+_, _-_, _*_, _<_, _≤_};
 ghost use lib.ListN.{length};
 ghost use Rattle.laws.specs.Signed.{above, below};
 ghost use Rattle.laws.specs.Best.{betterOf};
-ghost use Rattle.denoiser.specs.Search.{stepTo, neighbourOf, stepBest, blockSearch};
-ghost use Rattle.denoiser.specs.Internal.{Fits, Reach, Short, Lies, Measured, lumaCost};
+ghost use Rattle.denoiser.specs.Search.{neighbourOf, blockSearch};
+ghost use Rattle.denoiser.specs.Internal.{stepBest, Fits, Reach, Short, Lies, Measured, lumaCost};
+ghost use Rattle.laws.specs.Square.{stepTo};
 
 // Above every SAD of a block.
 const NO_CEILING: u32 = 65281;
 
 // The better of the best so far and the displacement d: only a strictly smaller SAD replaces the best.
-fn try_at(bytes: &[u8], p: PlaneNumbers, b: Block, centre: &[u8], best: Motion, d: Shift) -> Motion
+fn try_at(
+    bytes: &[u8],
+    p: PlaneNumbers,
+    b: Block,
+    centre: &[u8],
+    best: Motion,
+    d: Displacement,
+) -> Motion
     requires { ⌜ Fits (now bytes) p ⌝ }
     requires { ⌜ Lies b (p .columns) (p .rows) ⌝ }
     requires { ⌜ Short d ⌝ }
     requires { ⌜ p .columns * p .rows ≤ length (now centre) ⌝ }
-    requires { ⌜ best .sad ≡ lumaCost (now centre) (now bytes) p b (best .shift) ⌝ }
+    requires { ⌜ best .sad ≡ lumaCost (now centre) (now bytes) p b (best .displacement) ⌝ }
     ensures { λ r. ⌜ Measured (lumaCost (now (centre .entry)) (now (bytes .entry)) p b) (betterOf (lumaCost (now (centre .entry)) (now (bytes .entry)) p b)
-        (best .shift) d) r ⌝ }
+        (best .displacement) d) r ⌝ }
 {
     let sad = sad::block_sad(bytes, p, b, d, centre, best.sad);
     if sad < best.sad {
-        Motion { shift: d, sad: sad }
+        Motion {
+            displacement: d,
+            sad: sad,
+        }
     } else {
         best
     }
@@ -42,27 +53,27 @@ fn step_to(v: i32, place: u32, step: u32) -> i32
 }
 
 // The neighbours of a displacement, at the distance of a step, in raster order.
-fn next_to(d: Shift, step: u32, k: u32) -> Shift
+fn next_to(d: Displacement, step: u32, k: u32) -> Displacement
     requires { ⌜ (k < 8) × (step ≤ 8) × Short d ⌝ }
     ensures { λ r. ⌜ r ≡ neighbourOf d step k ⌝ }
 {
     let place = if k < 4 { k } else { k + 1 };
     let dx = step_to(d.dx, place % 3, step);
     let dy = step_to(d.dy, place / 3, step);
-    Shift { dx: dx, dy: dy }
+    Displacement { dx: dx, dy: dy }
 }
 
 // One step: the eight neighbours of the best at its beginning.
 fn round(bytes: &[u8], p: PlaneNumbers, b: Block, centre: &[u8], best: Motion, step: u32) -> Motion
     requires { ⌜ Fits (now bytes) p ⌝ }
     requires { ⌜ Lies b (p .columns) (p .rows) ⌝ }
-    requires { ⌜ (step ≤ 8) × Reach (15 - step) (best .shift) ⌝ }
+    requires { ⌜ (step ≤ 8) × Reach (15 - step) (best .displacement) ⌝ }
     requires { ⌜ p .columns * p .rows ≤ length (now centre) ⌝ }
-    requires { ⌜ best .sad ≡ lumaCost (now centre) (now bytes) p b (best .shift) ⌝ }
+    requires { ⌜ best .sad ≡ lumaCost (now centre) (now bytes) p b (best .displacement) ⌝ }
     ensures { λ r. ⌜ Measured (lumaCost (now (centre .entry)) (now (bytes .entry)) p b) (stepBest (lumaCost (now (centre .entry)) (now (bytes .entry)) p b) step
-        (best .shift)) r ⌝ }
+        (best .displacement)) r ⌝ }
 {
-    let from = best.shift;
+    let from = best.displacement;
     let mut found = best;
     let mut k: u32 = 0;
     while k < 8 {
@@ -80,10 +91,10 @@ pub(crate) fn block_search(bytes: &[u8], p: PlaneNumbers, b: Block, centre: &[u8
     ensures { λ r. ⌜ Measured (lumaCost (now (centre .entry)) (now (bytes .entry)) p b)
         (blockSearch (lumaCost (now (centre .entry)) (now (bytes .entry)) p b)) r ⌝ }
 {
-    let none = Shift { dx: 0, dy: 0 };
+    let none = Displacement { dx: 0, dy: 0 };
     let sad = sad::block_sad(bytes, p, b, none, centre, NO_CEILING);
     let m0 = Motion {
-        shift: none,
+        displacement: none,
         sad: sad,
     };
     let m1 = round(bytes, p, b, centre, m0, 8);

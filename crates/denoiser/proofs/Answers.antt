@@ -6,6 +6,7 @@ use Prim.Native.Nat.{ℕ, zero, suc, _+_, _*_, _/_, _≤_, _<_}
 use native.Mathlib.Omega.{arith}
 use lib.ListN.{length, getD}
 use Rattle.laws.specs.Outcome.{Outcome, refused, accepted, Line, firstOf, after}
+use Rattle.laws.proofs.Outcome as laws
 use Rattle.prediction.specs.Plane.{bytesNeeded}
 use Rattle.window.specs.declared.Frame.{Frame}
 use Rattle.window.specs.declared.Size.{Size}
@@ -62,8 +63,14 @@ after-refusal (PlaneUnfit g) old new = refl
 after-refusal ShortOutput old new = refl
 after-refusal ShortWorking old new = refl
 
-never : (r : Refusal) (a : Built) → Refused r ≡ Done a → ⊥
-never r a e = let z : _≡_ {A = ℕ} 0 1 = cc in omega arith
+never : (r : Refusal) (a : Built) → refusalOutcome {A = Built} r ≡ accepted a → ⊥
+never NoCentre a e = laws.never 1 [] a e
+never TooManyFrames a e = laws.never 2 [] a e
+never (BadSize s) a e = laws.never 3 _ a e
+never (OtherSize s c) a e = laws.never 4 _ a e
+never (PlaneUnfit g) a e = laws.never 5 _ a e
+never ShortOutput a e = laws.never 6 [] a e
+never ShortWorking a e = laws.never 7 [] a e
 
 module _ (b : BuildInput) where
   refused-outcome : (r : Refusal) → refusalOutcome r ≡ checks (givenOf b) → refusalOutcome r ≡ outcomeOf arnrRule b
@@ -78,10 +85,13 @@ module _ (b : BuildInput) where
       let o = refused-outcome r (sym (ap checkedOutcome k) ∙ e) in
       record {
         answer = o;
-        output = rw (sym o) (after-refusal r (b .lent .output) _);
-        sums = rw (sym o) (after-refusal r (b .lent .sums) _);
-        weights = rw (sym o) (after-refusal r (b .lent .weights) _);
-        demand3 = λ a p t. absurd (never r a p);
+        slices =
+            record {
+              output = rw (sym o) (after-refusal r (b .lent .output) _);
+              sums = rw (sym o) (after-refusal r (b .lent .sums) _);
+              weights = rw (sym o) (after-refusal r (b .lent .weights) _);
+              demand3 = λ a p t. absurd (never r a (o ∙ p));
+            };
       }
 
   module _ (c : Checked) (s : Size) (e : checkedOutcome c ≡ checks (givenOf b)) (k : c ≡ checked.Legal s) where
@@ -141,8 +151,11 @@ module _ (b : BuildInput) where
           let o = done-outcome in
           record {
             answer = ap accepted (same-built n (made .accepted)) ∙ o;
-            output = rw (sym o) (made .output);
-            sums = rw (sym o) (made .sums);
-            weights = rw (sym o) (made .weights);
-            demand3 = λ a p t. demand t;
+            slices =
+                record {
+                  output = rw (sym o) (made .output);
+                  sums = rw (sym o) (made .sums);
+                  weights = rw (sym o) (made .weights);
+                  demand3 = λ a p t. demand t;
+                };
           }

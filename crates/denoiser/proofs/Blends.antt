@@ -7,11 +7,12 @@ use native.Mathlib.Omega.{arith}
 use native.Mathlib.Decide.{decLt}
 use lib.IntN.{pos}
 use lib.ListN.{length, getD, List·getD-eq-default}
-use Rattle.laws.specs.Sums.{sumOver, sum-over-same}
+use Rattle.laws.specs.Sums.{sumOver}
+use Rattle.laws.proofs.Sums.{sum-over-same}
 use Rattle.laws.specs.Tabulate.{tabulate}
 use Rattle.weights.specs.Weights.{weightRead}
 use Rattle.weights.specs.Blend.{totalWeight, weightedSum, denoised}
-use Rattle.weights.proofs.Bound.{Each}
+use Rattle.laws.proofs.Each.{Each}
 use Rattle.window.specs.Layout.{sideOf, packedSize, placeOf}
 use Rattle.window.specs.Frames.{frameAt, frameCount}
 use Rattle.denoiser.specs.Window.{Picture, Scene, Window, Rule, centreAt, shareOf, totalAt, sumAt, denoisedAt, acceptedIn, acceptedBlocks, displacedAt, arnrRule}

@@ -10,7 +10,8 @@ use Rattle.prediction.specs.Samples.{distance}
 use Rattle.weights.specs.Weights.{weightRead}
 use Rattle.weights.specs.Blend.{totalWeight, weightedSum, denoised, distanceBound}
 use Rattle.weights.proofs.Weights.{read-most}
-use Rattle.weights.proofs.Bound.{Each, Shared, within-bound, denoised-byte, total-limit, sum-limit}
+use Rattle.weights.proofs.Bound.{Shared, within-bound, denoised-byte, total-limit, sum-limit}
+use Rattle.laws.proofs.Each.{Each}
 use Rattle.window.specs.Layout.{sideOf, packedSize}
 use Rattle.denoiser.specs.Grid.{unitOf}
 use Rattle.denoiser.specs.Window.{Scene, Window, Rule, gate, centreAt, shareOf, totalAt, sumAt, denoisedAt}

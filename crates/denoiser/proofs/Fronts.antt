@@ -8,7 +8,7 @@ use native.Mathlib.Decide.{decLt, ℕ-discrete}
 use lib.ListN.{length, getD, set, length-set}
 use lib.Seq.{getD-set-same, getD-set-other}
 use borrow.Rule.Slice.PartMut.{putMid, midOf, same-len-mid}
-use Rattle.laws.specs.Slices.{mid-long, put-before, put-inside, put-after}
+use Rattle.laws.proofs.Slices.{mid-long, put-before, put-inside, put-after}
 use Rattle.window.specs.Layout.{half, sideOf, placeOf}
 use Rattle.denoiser.specs.Internal.{Room, Front, Stored, Shows}
 use Rattle.denoiser.proofs.Planes.{below-end, row-below}

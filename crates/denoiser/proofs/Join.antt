@@ -9,18 +9,20 @@ use native.Mathlib.Omega.{arith}
 use native.Mathlib.Decide.{decLt}
 use lib.IntN.{pos}
 use lib.ListN.{length, getD, List·getD-eq-default}
-use Rattle.laws.specs.Sums.{sumBelow, sum-same}
-use Rattle.laws.specs.Tabulate.{tabulate, length-tabulate, getD-tabulate}
+use Rattle.laws.specs.Sums.{sumBelow}
+use Rattle.laws.proofs.Sums.{sum-same}
+use Rattle.laws.specs.Tabulate.{tabulate}
+use Rattle.laws.proofs.Tabulate.{length-tabulate, getD-tabulate}
 use Rattle.prediction.specs.Samples.{distance}
 use Rattle.prediction.specs.Plane.{Samples}
 use Rattle.weights.specs.Weights.{scale, weightOf, weightRead}
 use Rattle.weights.proofs.Weights.{zero-weight, read-none, read-some, read-most}
 use Rattle.window.specs.Layout.{sideOf}
 use Rattle.denoiser.specs.declared.Block.{Block}
-use Rattle.denoiser.specs.declared.Shift.{Shift}
+use Rattle.denoiser.specs.declared.Displacement.{Displacement}
 use Rattle.denoiser.specs.Grid.{gridBlock, gridSide, unitOf}
-use Rattle.denoiser.specs.Search.{sadOf, displacedBy, blockSearch, shiftIn}
-use Rattle.denoiser.specs.Window.{Picture, Scene, Rule, gate, centreAt, shareOf, acceptedIn, costOf, shiftOf, sadAccepted, blockAccepted, displacedAt, arnrRule}
+use Rattle.denoiser.specs.Search.{sadOf, displacedBy, blockSearch, displacementIn}
+use Rattle.denoiser.specs.Window.{Picture, Scene, Rule, gate, centreAt, shareOf, acceptedIn, costOf, displacementOf, sadAccepted, blockAccepted, displacedAt, arnrRule}
 use Rattle.denoiser.specs.Internal.{curveRule, curveShare, curveTerm}
 use Rattle.denoiser.proofs.Cover.{grid-lies, within-grid}
 
@@ -54,23 +56,23 @@ module _ (a b : Scene) (s : Agree a b) (f : Picture) where
       (λ x y hx hy. s .centre 0 x y (omega arith) (omega (arith, l .wide)) (omega (arith, l .high)))
       ∙ ap (λ (r : Block). sadOf (b .centre 0) (displacedBy d (f 0)) r) (grid-same i j))
 
-  shift-same : (i j : ℕ) → 16 * i < a .height → 16 * j < a .width → shiftOf a f i j ≡ shiftOf b f i j
-  unfolding shiftOf
-  shift-same i j hi hj = ap blockSearch (cost-same i j hi hj)
+  displacement-same : (i j : ℕ) → 16 * i < a .height → 16 * j < a .width → displacementOf a f i j ≡ displacementOf b f i j
+  unfolding displacementOf
+  displacement-same i j hi hj = ap blockSearch (cost-same i j hi hj)
 
   pub accepted-same : (i j : ℕ) → 16 * i < a .height → 16 * j < a .width → blockAccepted a f i j ≡ blockAccepted b f i j
   unfolding blockAccepted
   accepted-same i j hi hj =
-      ap (λ (c : Shift → ℕ). sadAccepted (gridBlock (a .width) (a .height) i j) (c (shiftOf a f i j))) (cost-same i j hi hj)
-      ∙ ap (λ (d : Shift). sadAccepted (gridBlock (a .width) (a .height) i j) (costOf b f i j d)) (shift-same i j hi hj)
-      ∙ ap (λ (r : Block). sadAccepted r (costOf b f i j (shiftOf b f i j))) (grid-same i j)
+      ap (λ (c : Displacement → ℕ). sadAccepted (gridBlock (a .width) (a .height) i j) (c (displacementOf a f i j))) (cost-same i j hi hj)
+      ∙ ap (λ (d : Displacement). sadAccepted (gridBlock (a .width) (a .height) i j) (costOf b f i j d)) (displacement-same i j hi hj)
+      ∙ ap (λ (r : Block). sadAccepted r (costOf b f i j (displacementOf b f i j))) (grid-same i j)
 
   module _ (k x y : ℕ) (hk : k < 3) (hx : x < sideOf k (a .width)) (hy : y < sideOf k (a .height)) where
     pub displaced-same : displacedAt a f k x y ≡ displacedAt b f k x y
     unfolding displacedAt
     displaced-same =
-        ap (λ (d : Shift). displacedBy (shiftIn k d) (f k) (pos x) (pos y))
-        (shift-same (y / unitOf k) (x / unitOf k) (in-grid k (a .height) y hy) (in-grid k (a .width) x hx))
+        ap (λ (d : Displacement). displacedBy (displacementIn k d) (f k) (pos x) (pos y))
+        (displacement-same (y / unitOf k) (x / unitOf k) (in-grid k (a .height) y hy) (in-grid k (a .width) x hx))
 
     by-weight : (u v : ℕ → ℕ) → ((e : ℕ) → u e ≡ v e)
         → gate (blockAccepted a f (y / unitOf k) (x / unitOf k)) (u (distance (displacedAt a f k x y) (centreAt a k x y)))

@@ -10,8 +10,9 @@ use native.Mathlib.Decide.{ℕ-discrete}
 use lib.Dec.{eqb}
 use lib.ListN.{length, length-append, length-map}
 use borrow.Author.Tests.{eq-eqb, ne-eqb}
-use Rattle.laws.specs.Sums.{sumOver, sum-over-append, sum-over-most}
-use Rattle.weights.proofs.Bound.{Each}
+use Rattle.laws.specs.Sums.{sumOver}
+use Rattle.laws.proofs.Sums.{sum-over-append, sum-over-most}
+use Rattle.laws.proofs.Each.{Each}
 use Rattle.window.specs.Frames.{frameAt}
 use Rattle.denoiser.specs.Window.{Picture}
 use Rattle.denoiser.specs.Pictures.{pictureOf, allBut, othersOf}

@@ -7,7 +7,8 @@ use native.Mathlib.Omega.{arith}
 use native.Mathlib.Decide.{decLt}
 use lib.ListN.{length, getD, drop, length-append, length-drop, List·getD-append}
 use lib.Seq.{ext-getD, getD-append-add, getD-drop}
-use Rattle.laws.specs.Tabulate.{tabulate, length-tabulate, getD-tabulate}
+use Rattle.laws.specs.Tabulate.{tabulate}
+use Rattle.laws.proofs.Tabulate.{length-tabulate, getD-tabulate}
 use Rattle.window.specs.Layout.{half, sideOf, offsetOf, packedSize, placeOf}
 use Rattle.denoiser.specs.Window.{Scene}
 use Rattle.denoiser.specs.Build.{planeList, packed, filled}

@@ -11,8 +11,8 @@ use Rattle.prediction.specs.Plane.{sampleAt}
 use Rattle.window.specs.declared.Frame.{Frame}
 use Rattle.window.specs.Frames.{planeOf}
 use Rattle.denoiser.specs.Grid.{unitOf}
-use Rattle.denoiser.specs.Search.{displacedBy, shiftIn}
-use Rattle.denoiser.specs.Window.{Picture, Scene, gate, shareOf, shiftOf, blockAccepted, displacedAt}
+use Rattle.denoiser.specs.Search.{displacedBy, displacementIn}
+use Rattle.denoiser.specs.Window.{Picture, Scene, gate, shareOf, displacementOf, blockAccepted, displacedAt}
 use Rattle.denoiser.specs.Pictures.{pictureOf}
 use Rattle.denoiser.specs.Internal.{Light, shareBy, termBy, curveRule, curveShare, curveTerm}
 use Rattle.denoiser.proofs.Gates.{gate-most, gate-times}
@@ -27,15 +27,15 @@ picture-byte bytes f byte k x y = sample-byte (planeOf bytes f k) byte x y
 -- what a frame adds at (x, y): by the block that covers it
 module _ (curve : List ℕ) (s : Scene) (f : Picture) (k x y : ℕ) where
   pub share-at : curveShare curve s f k x y
-      ≡ gate (blockAccepted s f (y / unitOf k) (x / unitOf k)) (shareBy curve (s .centre k) (displacedBy (shiftIn k (shiftOf s f (y / unitOf k) (x / unitOf k))) (f k)) x y)
+      ≡ gate (blockAccepted s f (y / unitOf k) (x / unitOf k)) (shareBy curve (s .centre k) (displacedBy (displacementIn k (displacementOf s f (y / unitOf k) (x / unitOf k))) (f k)) x y)
   unfolding curveShare shareOf curveRule displacedAt shareBy
   share-at = refl
 
   pub term-at : curveTerm curve s f k x y
-      ≡ gate (blockAccepted s f (y / unitOf k) (x / unitOf k)) (termBy curve (s .centre k) (displacedBy (shiftIn k (shiftOf s f (y / unitOf k) (x / unitOf k))) (f k)) x y)
+      ≡ gate (blockAccepted s f (y / unitOf k) (x / unitOf k)) (termBy curve (s .centre k) (displacedBy (displacementIn k (displacementOf s f (y / unitOf k) (x / unitOf k))) (f k)) x y)
   unfolding curveTerm displacedAt termBy
   term-at =
-      ap (λ (t : ℕ). t * displacedBy (shiftIn k (shiftOf s f (y / unitOf k) (x / unitOf k))) (f k) (pos x) (pos y)) share-at ∙ sym (gate-times _ _ _)
+      ap (λ (t : ℕ). t * displacedBy (displacementIn k (displacementOf s f (y / unitOf k) (x / unitOf k))) (f k) (pos x) (pos y)) share-at ∙ sym (gate-times _ _ _)
 
   pub share-light : Light curve → curveShare curve s f k x y ≤ 16
   share-light light = rw share-at (gate-most _ _ 16 (share-most curve _ _ light x y))

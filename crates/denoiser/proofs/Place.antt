@@ -12,7 +12,7 @@ use lib.ListN.{length, getD, take}
 use lib.Seq.{getD-take}
 use borrow.Author.Tests.{eq-eqb, ne-eqb, le-leb, lt-leb, lt-ltb, le-ltb}
 use borrow.Rule.Slice.PartMut.{putMid, midOf, same-len-mid}
-use Rattle.laws.specs.Slices.{mid-at, mid-long, put-before, put-inside, put-after}
+use Rattle.laws.proofs.Slices.{mid-at, mid-long, put-before, put-inside, put-after}
 use Rattle.prediction.specs.Samples.{distance}
 use Rattle.prediction.specs.Plane.{Samples}
 use Rattle.denoiser.specs.Window.{gate}

@@ -8,14 +8,14 @@ use lib.IntN.{ℤ, pos, _+ℤ_}
 use lib.ListN.{length, getD}
 use mir.Syntax.{w32}
 use mir.Val.{SFits}
-use Rattle.laws.specs.Signed.{fits, quot}
+use Rattle.laws.proofs.Signed.{fits, quot}
 use Rattle.prediction.specs.Plane.{Plane, sampleAt, nearestIn}
 use Rattle.window.specs.Layout.{sideOf, offsetOf, packedSize}
 use Rattle.denoiser.specs.declared.Block.{Block}
-use Rattle.denoiser.specs.declared.Shift.{Shift}
+use Rattle.denoiser.specs.declared.Displacement.{Displacement}
 use Rattle.denoiser.specs.declared.PlaneNumbers.{PlaneNumbers}
 use Rattle.denoiser.specs.Grid.{blockIn}
-use Rattle.denoiser.specs.Search.{displacedBy, shiftIn}
+use Rattle.denoiser.specs.Search.{displacedBy, displacementIn}
 use Rattle.denoiser.specs.Internal.{Fits, Short, Lies, planeIn, packedPlane}
 
 pub sample-below : (bytes : List ℕ) (p : PlaneNumbers) → Fits bytes p → (x y : ℕ) → x < p .columns → y < p .rows
@@ -45,12 +45,8 @@ packed-at at columns rows l x y hx hy = rw (near rows y hy, near columns x hx) (
 pub luma-at : (columns rows : ℕ) (l : List ℕ) (x y : ℕ) → x < columns → y < rows → sampleAt (packedPlane 0 columns rows l) (pos x) (pos y) ≡ getD l (y * columns + x) 0
 luma-at columns rows l x y hx hy = packed-at 0 columns rows l x y hx hy ∙ ap (λ (t : ℕ). getD l t 0) (omega arith)
 
-pub plane-at : (p : Plane) (x y : ℕ) → x < p .columns → y < p .rows → sampleAt p (pos x) (pos y) ≡ getD (p .bytes) (p .start + y * p .stride + x) 0
-unfolding sampleAt
-plane-at p x y hx hy = rw (near (p .rows) y hy, near (p .columns) x hx)
-
 -- the displaced sample, by its clamped coordinates
-pub displaced-at : (bytes : List ℕ) (p : PlaneNumbers) (d : Shift) (x y : ℕ) {cx cy : ℕ} → cx ≡ nearestIn (p .columns) (pos x +ℤ d .dx)
+pub displaced-at : (bytes : List ℕ) (p : PlaneNumbers) (d : Displacement) (x y : ℕ) {cx cy : ℕ} → cx ≡ nearestIn (p .columns) (pos x +ℤ d .dx)
     → cy ≡ nearestIn (p .rows) (pos y +ℤ d .dy) → getD bytes (p .start + cy * p .stride + cx) 0 ≡ displacedBy d (sampleAt (planeIn bytes p)) (pos x) (pos y)
 unfolding sampleAt
 displaced-at bytes p d x y {cx} {cy} ex ey =
@@ -63,11 +59,11 @@ unfolding sampleAt
 sample-byte p byte x y = let h = byte (p .start + nearestIn (p .rows) y * p .stride + nearestIn (p .columns) x) in omega arith
 
 -- a short displacement's components are 32-bit numbers
-pub short-fits : (d : Shift) → Short d → SFits w32 (d .dx) × SFits w32 (d .dy)
+pub short-fits : (d : Displacement) → Short d → SFits w32 (d .dx) × SFits w32 (d .dy)
 short-fits d s = (fits (omega arith) (omega arith), fits (omega arith) (omega arith))
 
-pub same-shift : {dx dx′ dy dy′ : ℤ} → dx ≡ dx′ → dy ≡ dy′ → _≡_ {A = Shift} (record { dx = dx; dy = dy }) (record { dx = dx′; dy = dy′ })
-same-shift {dx} {dx′} {dy} {dy′} ex ey = ap (λ (t : ℤ). record { dx = t; dy = dy }) ex ∙ ap (λ (t : ℤ). record { dx = dx′; dy = t }) ey
+pub same-displacement : {dx dx′ dy dy′ : ℤ} → dx ≡ dx′ → dy ≡ dy′ → _≡_ {A = Displacement} (record { dx = dx; dy = dy }) (record { dx = dx′; dy = dy′ })
+same-displacement {dx} {dx′} {dy} {dy′} ex ey = ap (λ (t : ℤ). record { dx = t; dy = dy }) ex ∙ ap (λ (t : ℤ). record { dx = dx′; dy = t }) ey
 
 -- the planes by their numbers
 pub not-luma : (k : ℕ) → (k ≡ 0 → ⊥) → k ≡ suc (pred k)
@@ -79,7 +75,7 @@ block-fits zero b w h l = l
 block-fits (suc k) b w h l =
     record { slim = omega (arith, l .slim); low = omega (arith, l .low); wide = omega (arith, l .wide); high = omega (arith, l .high) }
 
-pub short-in : (k : ℕ) (d : Shift) → Short d → Short (shiftIn k d)
+pub short-in : (k : ℕ) (d : Displacement) → Short d → Short (displacementIn k d)
 short-in zero d s = s
 short-in (suc k) d s = omega (arith, quot (d .dx) 2, quot (d .dy) 2, s .right, s .left, s .down, s .up)
 

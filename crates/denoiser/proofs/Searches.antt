@@ -1,6 +1,7 @@
 -- Laws of the block search, over any cost. Assumes nothing.
 use mathlib.Core.Path.{_≡_, refl, sym, ap, _∙_}
 use mathlib.Core.Bool.{Bool, true, false, cond}
+use mathlib.Core.List.{List, []}
 use Prim.Native.Nat.{ℕ, zero, suc, _+_, _*_, _/_, _%_, _≤_, _<_}
 use native.Mathlib.Nat.{mul-le-mul-right, le-trans}
 use native.Mathlib.Omega.{arith}
@@ -8,11 +9,16 @@ use native.Mathlib.Decide.{decLt}
 use lib.Dec.{ltb}
 use lib.IntN.{ℤ, pos, _+ℤ_}
 use borrow.Author.Tests.{lt-ltb, le-ltb}
-use Rattle.laws.specs.Signed.{above, below, sum, diff}
-use Rattle.laws.specs.Best.{betterOf, bestOf}
-use Rattle.denoiser.specs.declared.Shift.{Shift}
-use Rattle.denoiser.specs.Search.{squarePlace, stepTo, neighbourOf, stepBest, blockSearch, still}
-use Rattle.denoiser.specs.Internal.{Reach, Short}
+use Rattle.laws.specs.Signed.{above, below}
+use Rattle.laws.proofs.Signed.{sum, diff}
+use Rattle.laws.specs.Best.{betterOf, bestOf, bestAmong}
+use Rattle.laws.proofs.Best.{among-append, among-one}
+use Rattle.laws.proofs.Each.{Each, each-append, each-map}
+use Rattle.denoiser.specs.declared.Displacement.{Displacement}
+use Rattle.denoiser.specs.Search.{neighbourOf, neighboursOf, stepped, triedBy, measuredBy, blockSearch, still}
+use Rattle.denoiser.specs.Internal.{stepBest, Reach, Short}
+use Rattle.laws.specs.Square.{squarePlace, stepTo}
+use Rattle.laws.proofs.Square.{place-most}
 
 -- a neighbour is one step further at most
 step-reach : (v : ℤ) (m place step : ℕ) → place ≤ 2 → above v ≤ m → below v ≤ m
@@ -20,25 +26,18 @@ step-reach : (v : ℤ) (m place step : ℕ) → place ≤ 2 → above v ≤ m �
 step-reach v m place step h a b =
     omega (arith, mul-le-mul-right step h, sum v (pos (place * step)), diff (v +ℤ pos (place * step)) (pos step))
 
-place-most : (k : ℕ) → k < 8 → squarePlace k ≤ 8
-place-most k h = by (decLt k 4)
-  where
-    by : Dec (k < 4) → cond (ltb k 4) k (k + 1) ≤ 8
-    by (yes l) = simp (lt-ltb k 4 l) (omega arith)
-    by (no g) = simp (le-ltb k 4 (omega arith)) (omega arith)
-
-pub neighbour-reach : (d : Shift) (m step k : ℕ) → k < 8 → Reach m d → Reach (m + step) (neighbourOf d step k)
+pub neighbour-reach : (d : Displacement) (m step k : ℕ) → k < 8 → Reach m d → Reach (m + step) (neighbourOf d step k)
 unfolding neighbourOf
 neighbour-reach d m step k h r =
     let x = step-reach (d .dx) m (squarePlace k % 3) step (omega arith) (r .right) (r .left) in
     let y = step-reach (d .dy) m (squarePlace k / 3) step (omega (arith, place-most k h)) (r .down) (r .up) in
     record { right = x .0; left = x .1; down = y .0; up = y .1 }
 
-pub wider : (m n : ℕ) (d : Shift) → m ≤ n → Reach m d → Reach n d
+pub wider : (m n : ℕ) (d : Displacement) → m ≤ n → Reach m d → Reach n d
 wider m n d h r = record { right = le-trans (r .right) h; left = le-trans (r .left) h; down = le-trans (r .down) h; up = le-trans (r .up) h }
 
-module _ (cost : Shift → ℕ) where
-  better-reach : (best d : Shift) (m : ℕ) → Reach m best → Reach m d → Reach m (betterOf cost best d)
+module _ (cost : Displacement → ℕ) where
+  better-reach : (best d : Displacement) (m : ℕ) → Reach m best → Reach m d → Reach m (betterOf cost best d)
   unfolding betterOf
   better-reach best d m a b = by (ltb (cost d) (cost best))
     where
@@ -46,18 +45,63 @@ module _ (cost : Shift → ℕ) where
       by true = b
       by false = a
 
-  best-reach : (from : Shift) (m step n : ℕ) → n ≤ 8 → Reach m from → Reach (m + step) (bestOf cost from (neighbourOf from step) n)
+  best-reach : (from : Displacement) (m step n : ℕ) → n ≤ 8 → Reach m from → Reach (m + step) (bestOf cost from (neighbourOf from step) n)
   unfolding bestOf
   best-reach from m step zero h r = wider m (m + step) from (omega arith) r
   best-reach from m step (suc n) h r =
       better-reach (bestOf cost from (neighbourOf from step) n) (neighbourOf from step n) (m + step)
       (best-reach from m step n (omega arith) r) (neighbour-reach from m step n h r)
 
-  pub step-best-reach : (step m : ℕ) (best : Shift) → Reach m best → Reach (m + step) (stepBest cost step best)
+  pub step-best-reach : (step m : ℕ) (best : Displacement) → Reach m best → Reach (m + step) (stepBest cost step best)
   unfolding stepBest
   step-best-reach step m best r = best-reach best m step 8 (omega arith) r
 
-  -- the block search's displacement is within -15 to 15
+  -- the search is four steps, one after the other
+  among-eight : (best d : Displacement) (step : ℕ) → bestAmong cost best (neighboursOf d step) ≡ bestOf cost best (neighbourOf d step) 8
+  unfolding bestAmong bestOf neighboursOf
+  among-eight best d step = refl
+
+  pub step-is : (step : ℕ) (tried : List Displacement) → bestAmong cost still (stepped cost step tried) ≡ stepBest cost step (bestAmong cost still tried)
+  unfolding stepped stepBest
+  step-is step tried = among-append cost still tried (neighboursOf (bestAmong cost still tried) step) ∙ among-eight (bestAmong cost still tried) (bestAmong cost still tried) step
+
+  first-is : bestAmong cost still (stepped cost 8 []) ≡ stepBest cost 8 still
+  unfolding bestAmong
+  first-is = step-is 8 []
+
+  second-is : bestAmong cost still (stepped cost 4 (stepped cost 8 [])) ≡ stepBest cost 4 (stepBest cost 8 still)
+  second-is = step-is 4 (stepped cost 8 []) ∙ ap (stepBest cost 4) first-is
+
+  third-is : bestAmong cost still (stepped cost 2 (stepped cost 4 (stepped cost 8 []))) ≡ stepBest cost 2 (stepBest cost 4 (stepBest cost 8 still))
+  third-is = step-is 2 (stepped cost 4 (stepped cost 8 [])) ∙ ap (stepBest cost 2) second-is
+
+  pub search-steps : blockSearch cost ≡ stepBest cost 1 (stepBest cost 2 (stepBest cost 4 (stepBest cost 8 still)))
+  unfolding blockSearch triedBy
+  search-steps = step-is 1 (stepped cost 2 (stepped cost 4 (stepped cost 8 []))) ∙ ap (stepBest cost 1) third-is
+
+  -- every displacement that is measured, and so the last best, is within -15 to 15
+  each-eight : (P : Displacement → Type 0) (d : Displacement) (step : ℕ) → ((k : ℕ) → k < 8 → P (neighbourOf d step k)) → Each P (neighboursOf d step)
+  unfolding neighboursOf
+  each-eight P d step h =
+      (h 0 (omega arith), (h 1 (omega arith), (h 2 (omega arith), (h 3 (omega arith), (h 4 (omega arith), (h 5 (omega arith), (h 6 (omega arith), (h 7 (omega arith), tt))))))))
+
+  stepped-reach : (m step : ℕ) (tried : List Displacement) → Reach m still → Each (Reach m) tried → Each (Reach (m + step)) (stepped cost step tried)
+  unfolding stepped
+  stepped-reach m step tried s e =
+      each-append (Reach (m + step)) tried _ (each-map (λ d r. wider m (m + step) d (omega arith) r) tried e)
+      (each-eight (Reach (m + step)) _ step (λ k h. neighbour-reach (bestAmong cost still tried) m step k h (among-one cost (Reach m) still tried (s, e))))
+
+  still-reach : (m : ℕ) → Reach m still
+  still-reach m = record { right = omega arith; left = omega arith; down = omega arith; up = omega arith }
+
+  pub measured-short : Each Short (measuredBy cost)
+  unfolding measuredBy triedBy
+  measured-short =
+      let t8 = stepped-reach 0 8 [] (still-reach 0) tt in
+      let t4 = stepped-reach 8 4 (stepped cost 8 []) (still-reach 8) t8 in
+      let t2 = stepped-reach 12 2 (stepped cost 4 (stepped cost 8 [])) (still-reach 12) t4 in
+      (still-reach 15, stepped-reach 14 1 (stepped cost 2 (stepped cost 4 (stepped cost 8 []))) (still-reach 14) t2)
+
   pub search-reach : Short (blockSearch cost)
-  unfolding blockSearch
-  search-reach = step-best-reach 1 14 _ (step-best-reach 2 12 _ (step-best-reach 4 8 _ (step-best-reach 8 0 _ (omega arith))))
+  unfolding blockSearch measuredBy
+  search-reach = among-one cost Short still (triedBy cost) measured-short

@@ -91,13 +91,17 @@ outputAfter rule b =
 unfoldable pub workingAfter : (Scene → Rule Picture) → BuildInput → (ℕ → ℕ → ℕ → ℕ) → List ℕ → List ℕ
 workingAfter rule b f old = after (outcomeOf rule b) old (cond (cropped (b .request)) old (filled (sceneOf (b .request)) f old))
 
--- what a builder promises, under a rule: the answer, the three slices after the call, and all of demand 3 where it blends
-pub record BuildBy (rule : Scene → Rule Picture) (b : BuildInput) (r : BuildAnswer) (held : Held) : Type 0 where
-  pub answer : buildOutcome r ≡ outcomeOf rule b
+-- what a builder leaves in the three slices, under a rule, and all of demand 3 where it blends
+pub record LeavesBy (rule : Scene → Rule Picture) (b : BuildInput) (held : Held) : Type 0 where
   pub output : held .output ≡ outputAfter rule b
   pub sums : held .sums ≡ workingAfter rule b (sumAt (rule (sceneOf (b .request))) (windowOf (b .request))) (b .lent .sums)
   pub weights : held .weights ≡ workingAfter rule b (totalAt (rule (sceneOf (b .request))) (windowOf (b .request))) (b .lent .weights)
-  pub demand3 : (a : Built) → r ≡ Done a → cropped (b .request) ≡ false → Demand3 (rule (sceneOf (b .request))) (windowOf (b .request)) held
+  pub demand3 : (a : Built) → outcomeOf rule b ≡ accepted a → cropped (b .request) ≡ false → Demand3 (rule (sceneOf (b .request))) (windowOf (b .request)) held
+
+-- what a builder promises: the answer, and what it leaves
+pub record BuildBy (rule : Scene → Rule Picture) (b : BuildInput) (r : BuildAnswer) (held : Held) : Type 0 where
+  pub answer : buildOutcome r ≡ outcomeOf rule b
+  pub slices : LeavesBy rule b held
 
 -- the builder of the Rust
 abbrev pub BuildIs : BuildInput → BuildAnswer → Held → Type 0

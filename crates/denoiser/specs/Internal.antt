@@ -7,6 +7,7 @@ use lib.Dec.{leb, ltb}
 use lib.IntN.{ℤ, pos}
 use lib.ListN.{length, getD}
 use Rattle.laws.specs.Signed.{above, below}
+use Rattle.laws.specs.Best.{bestOf}
 use Rattle.prediction.specs.Samples.{distance}
 use Rattle.prediction.specs.Plane.{Samples, Plane, sampleAt, bytesNeeded}
 use Rattle.window.specs.declared.Frame.{Frame}
@@ -14,10 +15,10 @@ use Rattle.window.specs.Layout.{sideOf, offsetOf, packedSize, placeOf}
 use Rattle.weights.specs.Blend.{denoised}
 use Rattle.window.specs.Frames.{startOf, strideOf, planeOf, frameAt, frameCount}
 use Rattle.denoiser.specs.declared.Block.{Block}
-use Rattle.denoiser.specs.declared.Shift.{Shift}
+use Rattle.denoiser.specs.declared.Displacement.{Displacement}
 use Rattle.denoiser.specs.declared.PlaneNumbers.{PlaneNumbers}
 use Rattle.denoiser.specs.declared.Motion.{Motion}
-use Rattle.denoiser.specs.Search.{sadOf, displacedBy}
+use Rattle.denoiser.specs.Search.{sadOf, displacedBy, neighbourOf}
 use Rattle.denoiser.specs.Window.{Picture, Scene, Rule, gate, shareOf, sumAt, totalAt, denoisedAt, acceptedBlocks, blockAccepted, displacedAt, arnrRule}
 use Rattle.denoiser.specs.Demand.{Held}
 use Rattle.denoiser.specs.Build.{Request, sceneOf, windowOf, cropped, packed, filled, builtOf, samplesOf}
@@ -44,13 +45,13 @@ pub record Whole (bytes : List ℕ) (f : Frame) : Type 0 where
   pub fits : (k : ℕ) → k < 3 → Fits bytes (numbersOf f k)
 
 -- each component of the displacement is -m to m
-pub record Reach (m : ℕ) (d : Shift) : Type 0 where
+pub record Reach (m : ℕ) (d : Displacement) : Type 0 where
   pub right : above (d .dx) ≤ m
   pub left : below (d .dx) ≤ m
   pub down : above (d .dy) ≤ m
   pub up : below (d .dy) ≤ m
 
-abbrev pub Short : Shift → Type 0
+abbrev pub Short : Displacement → Type 0
 Short d = Reach 15 d
 
 -- n samples from (x, y) on lie in one row of a plane
@@ -79,12 +80,16 @@ pub record Lent (n : ℕ) (out sums weights : List ℕ) : Type 0 where
   pub in-weights : n ≤ length weights
 
 -- the cost of a displacement: the SAD of a block of the packed centre plane and the displaced block of a plane
-unfoldable pub lumaCost : List ℕ → List ℕ → PlaneNumbers → Block → Shift → ℕ
+unfoldable pub lumaCost : List ℕ → List ℕ → PlaneNumbers → Block → Displacement → ℕ
 lumaCost centre bytes p b d = sadOf (sampleAt (packedPlane 0 (p .columns) (p .rows) centre)) (displacedBy d (sampleAt (planeIn bytes p))) b
 
+-- one step by itself: the best of a displacement and its eight neighbours
+unfoldable pub stepBest : (Displacement → ℕ) → ℕ → Displacement → Displacement
+stepBest cost step best = bestOf cost best (neighbourOf best step) 8
+
 -- a displacement with its cost
-pub record Measured (cost : Shift → ℕ) (d : Shift) (m : Motion) : Type 0 where
-  pub shift : m .shift ≡ d
+pub record Measured (cost : Displacement → ℕ) (d : Displacement) (m : Motion) : Type 0 where
+  pub displacement : m .displacement ≡ d
   pub sad : m .sad ≡ cost d
 
 -- n more fits a 32-bit number at every place; n frames more fit both working slices

@@ -10,9 +10,9 @@ use Rattle.prediction.specs.Plane.{Samples}
 use Rattle.weights.specs.Weights.{weightRead}
 use Rattle.weights.specs.Blend.{totalWeight, weightedSum, denoised}
 use Rattle.denoiser.specs.declared.Block.{Block}
-use Rattle.denoiser.specs.declared.Shift.{Shift}
+use Rattle.denoiser.specs.declared.Displacement.{Displacement}
 use Rattle.denoiser.specs.Grid.{gridBlock, gridSide, unitOf}
-use Rattle.denoiser.specs.Search.{sadOf, displacedBy, blockSearch, shiftIn}
+use Rattle.denoiser.specs.Search.{sadOf, displacedBy, blockSearch, displacementIn}
 
 -- a picture: the samples of each plane, edge samples repeated
 abbrev pub Picture : Type 0
@@ -67,22 +67,22 @@ unfoldable pub acceptedBlocks : {F : Type 0} → Rule F → Window F → ℕ
 acceptedBlocks rule w = sumOver (acceptedIn rule (w .scene)) (w .others)
 
 -- the rule of the Rust: the block's displacement for a frame is the last best of the block search, its SAD that of this best
-unfoldable pub costOf : Scene → Picture → ℕ → ℕ → Shift → ℕ
+unfoldable pub costOf : Scene → Picture → ℕ → ℕ → Displacement → ℕ
 costOf s f i j d = sadOf (s .centre 0) (displacedBy d (f 0)) (gridBlock (s .width) (s .height) i j)
 
-unfoldable pub shiftOf : Scene → Picture → ℕ → ℕ → Shift
-shiftOf s f i j = blockSearch (costOf s f i j)
+unfoldable pub displacementOf : Scene → Picture → ℕ → ℕ → Displacement
+displacementOf s f i j = blockSearch (costOf s f i j)
 
 -- a block is excluded exactly when its SAD is at least 13 times bw times bh
 abbrev pub sadAccepted : Block → ℕ → Bool
 sadAccepted b sad = ltb sad (13 * (b .columns * b .rows))
 
 unfoldable pub blockAccepted : Scene → Picture → ℕ → ℕ → Bool
-blockAccepted s f i j = sadAccepted (gridBlock (s .width) (s .height) i j) (costOf s f i j (shiftOf s f i j))
+blockAccepted s f i j = sadAccepted (gridBlock (s .width) (s .height) i j) (costOf s f i j (displacementOf s f i j))
 
 -- the displaced sample: the frame's at (x, y) moved by the displacement, in U and V by the chroma one
 unfoldable pub displacedAt : Scene → Picture → ℕ → ℕ → ℕ → ℕ
-displacedAt s f k x y = displacedBy (shiftIn k (shiftOf s f (y / unitOf k) (x / unitOf k))) (f k) (pos x) (pos y)
+displacedAt s f k x y = displacedBy (displacementIn k (displacementOf s f (y / unitOf k) (x / unitOf k))) (f k) (pos x) (pos y)
 
 unfoldable pub arnrRule : Scene → Rule Picture
 arnrRule s = record { accepts = blockAccepted s; sample = displacedAt s; weight = λ f e. weightRead (s .strength) e }

@@ -10,7 +10,7 @@ pub struct Block {
 }
 
 // A displacement in whole samples: columns to the right, rows down.
-pub struct Shift {
+pub struct Displacement {
     pub dx: i32,
     pub dy: i32,
 }
@@ -25,7 +25,7 @@ pub struct PlaneNumbers {
 
 // A displacement and its SAD.
 pub struct Motion {
-    pub shift: Shift,
+    pub displacement: Displacement,
     pub sad: u32,
 }
 

@@ -13,9 +13,13 @@ use types.Run.{OneOf, miss}
 use denote.Enum.Declared.{tagOf}
 use mir.Syntax.{w16}
 use mir.Val.{SFits}
-use Rattle.laws.specs.Signed.{above, below, range, floor, Less, less-of, less-pos, less-sum, less-diff, above-less}
-use Rattle.laws.specs.Tabulate.{tabulate, tabulate-same, Filling, fill-at, fill-turn}
-use Rattle.laws.specs.Outcome.{Outcome, refused, accepted, Line, firstOf, after, accepted-same, never, skipped, or-none}
+use Rattle.laws.specs.Signed.{above, below}
+use Rattle.laws.proofs.Signed.{range, floor, Less, less-of, less-pos, less-sum, less-diff, above-less}
+use Rattle.laws.specs.Tabulate.{tabulate}
+use Rattle.laws.specs.Internal.{Filling}
+use Rattle.laws.proofs.Tabulate.{tabulate-same, fill-at, fill-turn}
+use Rattle.laws.specs.Outcome.{Outcome, refused, accepted, Line, firstOf, after}
+use Rattle.laws.proofs.Outcome.{accepted-same, never, skipped, or-none}
 use Rattle.prediction.specs.declared.motion_vector.Mv.{Mv}
 use Rattle.fetch.specs.declared.FetchAnswer.{FetchAnswer}
 use Rattle.fetch.specs.declared.FetchAnswer.the-variants.{Fetched, BadSize, ShortPlane, BadOrigin}

@@ -7,7 +7,8 @@ ghost use Prim.Native.Nat.{_+_, _-_, _*_, _≤_, _<_, min};
 ghost use lib.Dec.{ltb};
 ghost use lib.ListN.{length, getD};
 ghost use Rattle.laws.specs.Signed.{above, below};
-ghost use Rattle.laws.specs.Tabulate.{Filling, tabulate};
+ghost use Rattle.laws.specs.Tabulate.{tabulate};
+ghost use Rattle.laws.specs.Internal.{Filling};
 ghost use Rattle.prediction.specs.Vector.{wholeOf};
 ghost use Rattle.prediction.specs.Plane.{lumaPlane};
 ghost use Rattle.prediction.specs.Refusals.{badSide, badOrigin};
@@ -54,7 +55,8 @@ pub fn bad_size(width: usize, height: usize) -> bool
     bad_side(height)
 }
 
-// Refusal 9: len is below (height - 1) times stride + width, at any stride: a product is made only where it cannot wrap.
+// Refusal 9: len is below (height - 1) times stride + width, at any stride; height 0 counts as one row. A product is made only where
+// it cannot wrap.
 pub fn short_plane(len: usize, stride: usize, width: usize, height: usize) -> bool
     ensures { λ r. ⌜ r ≡ ltb len ((height - 1) * stride + width) ⌝ }
 {

@@ -7,8 +7,7 @@ use native.Mathlib.Decide.{decLt}
 use lib.ListN.{length, take, getD, set, length-set}
 use lib.Seq.{getD-set-same, getD-set-other}
 use Rattle.window.specs.declared.Frame.{Frame}
-use Rattle.window.specs.Frames.{frameAt}
-use Rattle.altref.specs.Records.{zeroFrame}
+use Rattle.window.specs.Frames.{frameAt, zeroFrame}
 use Rattle.framelist.specs.Lists.{arrayRecords, Listed}
 
 take-all : (fs : List Frame) (n : ℕ) → length fs ≤ n → take n fs ≡ fs

@@ -11,7 +11,7 @@ ghost use mathlib.Core.Path.{_≡_};
 ghost use Prim.Native.Nat.{_≤_, _<_};
 ghost use Rattle.laws.specs.Signed.{above, below};
 ghost use Rattle.search.specs.Search.{tried, roundOf, diamond};
-ghost use Rattle.search.specs.Conditions.{costAt, Ready, Whole, Good};
+ghost use Rattle.search.specs.Internal.{costAt, Ready, Whole, Good};
 
 // One neighbour of the best so far.
 fn try_at(

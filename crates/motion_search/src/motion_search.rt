@@ -23,7 +23,7 @@ ghost use Rattle.prediction.specs.Plane.{lumaPlane};
 ghost use Rattle.search.specs.Sad.{sad16, costOf};
 ghost use Rattle.search.specs.Search.{diamond, refine};
 ghost use Rattle.search.specs.Refusals.{placeLines, vectorLines, gridLines, sadOutcome, searchOutcome, diamondOutcome};
-ghost use Rattle.search.specs.Conditions.{planeOf, costAt};
+ghost use Rattle.search.specs.Internal.{planeOf, costAt};
 
 // The range of a component, in quarter pixels.
 pub const MV_MIN: i16 = -1023;

@@ -8,7 +8,7 @@ ghost use mathlib.Core.Path.{_≡_};
 ghost use Prim.Native.Nat.{_≤_};
 ghost use Rattle.laws.specs.Best.{betterOf};
 ghost use Rattle.search.specs.Search.{refine};
-ghost use Rattle.search.specs.Conditions.{costAt, Ready, Room};
+ghost use Rattle.search.specs.Internal.{costAt, Ready, Room};
 
 // The better of the best so far and a vector: only a smaller SAD replaces the best.
 fn try_mv(plane: &[u8], s: Site, src: &[u8], best: SearchResult, mv: Mv) -> SearchResult

@@ -17,7 +17,7 @@ ghost use Rattle.laws.specs.Sums.{sumBelow};
 ghost use Rattle.prediction.specs.Samples.{distance};
 ghost use Rattle.prediction.specs.Vector.{wholeOf};
 ghost use Rattle.search.specs.Sad.{sad16};
-ghost use Rattle.search.specs.Conditions.{costAt, copiedAt, predictedFrom, Ready, Copied, Inside, twoApart};
+ghost use Rattle.search.specs.Internal.{costAt, copiedAt, predictedFrom, Ready, Copied, Inside, twoApart};
 
 // The SAD of two rows of a block, which follow one another, and of two rows of a plane.
 fn two_rows_sad(a: &[u8], b: &[u8], c: &[u8]) -> u32

@@ -7,8 +7,9 @@ ghost use mathlib.Core.Path.{_≡_};
 ghost use Prim.Native.Nat.{_+_, _≤_, _<_};
 ghost use lib.IntN.{natAbs};
 ghost use Rattle.laws.specs.Signed.{above, below};
-ghost use Rattle.search.specs.Search.{clampedMv, cutTo4, onGrid, gridded, stepped, sameMv, placeOf, stepTo, rasterOf};
-ghost use Rattle.search.specs.Conditions.{Whole, Room};
+ghost use Rattle.search.specs.Search.{clampedMv, cutTo4, onGrid, gridded, stepped, sameMv, rasterOf};
+ghost use Rattle.laws.specs.Square.{squarePlace, stepTo};
+ghost use Rattle.search.specs.Internal.{Whole, Room};
 
 fn clamp_component(v: i16) -> i16
     ensures { λ r. ⌜ r ≡ clampedMv v ⌝ }
@@ -77,7 +78,7 @@ fn step_to(v: i16, place: u32, step: u32) -> i16
 // The places of a 3 by 3 square without the middle one.
 fn place_of(k: u32) -> u32
     requires { ⌜ k < 8 ⌝ }
-    ensures { λ r. ⌜ r ≡ placeOf k ⌝ }
+    ensures { λ r. ⌜ r ≡ squarePlace k ⌝ }
 {
     if k < 4 {
         return k;

@@ -2,7 +2,8 @@
 use mathlib.Core.Path.{_≡_, refl, sym, ap, _∙_}
 use mathlib.Core.List.{List, []}
 use Prim.Native.Nat.{ℕ}
-use Rattle.laws.specs.Outcome.{Outcome, refused, accepted, Line, firstOf, after, answered}
+use Rattle.laws.specs.Outcome.{Outcome, refused, accepted, Line, firstOf, after}
+use Rattle.laws.proofs.Outcome.{answered}
 use Rattle.fetch.specs.declared.FetchAnswer.{FetchAnswer}
 use Rattle.fetch.specs.declared.FetchAnswer.the-variants.{Fetched, BadSize, ShortPlane, BadOrigin}
 use Rattle.fetch.specs.Refusals.{fetchOutcome, FillIs}

@@ -3,10 +3,10 @@ use mathlib.Core.List.{List, [], _∷_}
 use Prim.Native.Nat.{ℕ, zero, suc}
 use lib.ListN.{getD}
 use lib.IntN.{ℤ, pos, negℤ, _+ℤ_, _*ℤ_}
-use lib.Signed.{shrZ}
 use Rattle.prediction.specs.Samples.{clamped255}
 use Rattle.prediction.specs.declared.motion_comp.FilterSet.{FilterSet}
 use Rattle.prediction.specs.declared.motion_comp.FilterSet.the-variants.{Sixtap, Bilinear}
+use Rattle.laws.specs.Signed.{floorDiv}
 
 -- the sum of the first n products of a tap and a sample
 unfoldable pub products : (ℕ → ℤ) → (ℕ → ℕ) → ℕ → ℤ
@@ -15,7 +15,7 @@ products tap sample (suc n) = products tap sample n +ℤ tap n *ℤ pos (sample 
 
 -- six products, plus 64, divided by 128 rounding down, clamped to 0..255
 unfoldable pub filtered : (ℕ → ℤ) → (ℕ → ℕ) → ℕ
-filtered tap sample = clamped255 (shrZ (products tap sample 6 +ℤ pos 64) 128)
+filtered tap sample = clamped255 (floorDiv (products tap sample 6 +ℤ pos 64) 128)
 
 -- a filter set: the tap k of each selector
 abbrev pub FilterRows : Type 0

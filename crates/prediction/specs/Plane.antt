@@ -21,7 +21,7 @@ pub record Plane : Type 0 where
 abbrev pub lumaPlane : List ℕ → ℕ → ℕ → ℕ → Plane
 lumaPlane bytes stride width height = record { bytes = bytes; start = 0; stride = stride; columns = width; rows = height }
 
--- the bytes that the plane needs: start + (rows - 1) times stride + columns
+-- the bytes that the plane needs: start + (rows - 1) times stride + columns; a plane of no rows counts as one of one row
 abbrev pub bytesNeeded : Plane → ℕ
 bytesNeeded p = p .start + (p .rows - 1) * p .stride + p .columns
 

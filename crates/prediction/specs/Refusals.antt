@@ -15,7 +15,7 @@ badSide n = eqb n 0 || ltb 16383 n
 abbrev pub badSize : Plane → Bool
 badSize p = badSide (p .columns) || badSide (p .rows)
 
--- 9. The reference plane is shorter than (height - 1) times stride + width
+-- 9. The reference plane is shorter than (height - 1) times stride + width; asked of height 0, which 8 refuses before, it counts one row
 abbrev pub shortPlane : Plane → Bool
 shortPlane p = ltb (length (p .bytes)) (bytesNeeded p)
 

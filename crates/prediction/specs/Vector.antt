@@ -2,8 +2,8 @@
 use mathlib.Core.Bool.{Bool, true, false, cond}
 use Prim.Native.Nat.{ℕ}
 use lib.IntN.{ℤ, pos, negsuc, _+ℤ_, _-ℤ_, _*ℤ_}
-use lib.Signed.{ltZ, shrZ}
-use Rattle.laws.specs.Signed.{above}
+use lib.Signed.{ltZ}
+use Rattle.laws.specs.Signed.{above, floorDiv}
 use Rattle.prediction.specs.declared.motion_vector.Mv.{Mv}
 
 -- z brought into -32768..32767 by adding or taking away 65536, for z in -65536..65535
@@ -20,7 +20,7 @@ storedMv v = record { row = doubled (v .row); col = doubled (v .col) }
 
 -- the whole offset: a component in eighths divided by 8, rounded down, also below zero
 abbrev pub wholeOf : ℤ → ℤ
-wholeOf v = shrZ v 8
+wholeOf v = floorDiv v 8
 
 -- the fraction is what remains, 0 to 7
 abbrev pub fractionOf : ℤ → ℕ

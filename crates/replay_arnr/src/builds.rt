@@ -22,7 +22,7 @@ fn config_of(record: &[u8; 144]) -> ArnrConfig {
 }
 
 // Whether a configuration stores the strength that it is to store.
-pub fn stores(record: &[u8; 144]) -> bool {
+pub(crate) fn stores(record: &[u8; 144]) -> bool {
     let config = config_of(record);
     config.strength as usize == number(record, 1)
 }
@@ -141,7 +141,7 @@ fn agrees_by(records: bool, pictures: &[u8], payload: &[u8], record: &[u8; 144])
 }
 
 // Both forms, each with slices of its own: the answer and every slice are the stored ones, so those of one form are those of the other.
-pub fn agrees(pictures: &[u8], payload: &[u8], record: &[u8; 144]) -> bool {
+pub(crate) fn agrees(pictures: &[u8], payload: &[u8], record: &[u8; 144]) -> bool {
     let over_numbers = agrees_by(false, pictures, payload, record);
     let over_records = agrees_by(true, pictures, payload, record);
     over_numbers && over_records

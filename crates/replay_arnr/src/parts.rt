@@ -9,19 +9,19 @@ const OLD_BYTE: u8 = 165;
 const OLD_WORD: u32 = 3000000001;
 
 // Room for the largest payload.
-pub fn payload_buffer() -> [u8; 240000]
+pub(crate) fn payload_buffer() -> [u8; 240000]
     ensures { λ r. ⌜ 240000 ≡ length r ⌝ }
 {
     [0; 240000]
 }
 
-pub fn old_bytes() -> [u8; 40000]
+pub(crate) fn old_bytes() -> [u8; 40000]
     ensures { λ r. ⌜ 40000 ≡ length r ⌝ }
 {
     [OLD_BYTE; 40000]
 }
 
-pub fn old_words() -> [u32; 40000]
+pub(crate) fn old_words() -> [u32; 40000]
     ensures { λ r. ⌜ 40000 ≡ length r ⌝ }
 {
     [OLD_WORD; 40000]
@@ -39,12 +39,12 @@ fn byte_at(bytes: &[u8], at: usize) -> u8 {
 }
 
 // The number at an index from 0 to 17.
-pub fn number(record: &[u8; 144], index: usize) -> usize {
+pub(crate) fn number(record: &[u8; 144], index: usize) -> usize {
     stored::number(record, index)
 }
 
 // A number of a record that is below 2^20.
-pub fn small(record: &[u8; 144], index: usize) -> usize
+pub(crate) fn small(record: &[u8; 144], index: usize) -> usize
     ensures { λ r. ⌜ r < 1048576 ⌝ }
 {
     number(record, index) % 1048576
@@ -67,7 +67,7 @@ fn word(bytes: &[u8], k: usize) -> u32 {
 }
 
 // A part of the bytes; nothing where it runs past them.
-pub fn part(bytes: &[u8], start: usize, len: usize) -> &[u8] {
+pub(crate) fn part(bytes: &[u8], start: usize, len: usize) -> &[u8] {
     if start <= bytes.len() {
         if len <= bytes.len() - start {
             &bytes[start..start + len]
@@ -80,21 +80,21 @@ pub fn part(bytes: &[u8], start: usize, len: usize) -> &[u8] {
 }
 
 // Fills the first n bytes from a file, and answers whether it could.
-pub fn read_part(fd: i32, buf: &mut [u8], n: usize) -> bool {
+pub(crate) fn read_part(fd: i32, buf: &mut [u8], n: usize) -> bool {
     if buf.len() < n {
         return false;
     }
     io::read_full(fd, &mut buf[..n]) == n
 }
 
-pub fn least(a: usize, b: usize) -> usize
+pub(crate) fn least(a: usize, b: usize) -> usize
     ensures { λ r. ⌜ r ≤ b ⌝ }
 {
     if a < b { a } else { b }
 }
 
 // So many numbers: the stored ones, n of them, again and again.
-pub fn loaded(stored: &[u8], n: usize, given: usize) -> [u32; 7200]
+pub(crate) fn loaded(stored: &[u8], n: usize, given: usize) -> [u32; 7200]
     ensures { λ r. ⌜ 7200 ≡ length r ⌝ }
 {
     let mut numbers = [0u32; 7200];
@@ -125,7 +125,7 @@ fn new_word(written: &[u8], k: usize) -> u32 {
 }
 
 // Whether the bytes are what is written, and behind it what was there before.
-pub fn bytes_agree(got: &[u8], written: &[u8]) -> bool {
+pub(crate) fn bytes_agree(got: &[u8], written: &[u8]) -> bool {
     let mut k = 0;
     while k < got.len() {
         if got[k] != new_byte(written, k) {
@@ -137,7 +137,7 @@ pub fn bytes_agree(got: &[u8], written: &[u8]) -> bool {
 }
 
 // The same of numbers, of which three bytes are stored.
-pub fn words_agree(got: &[u32], written: &[u8]) -> bool {
+pub(crate) fn words_agree(got: &[u32], written: &[u8]) -> bool {
     let mut k = 0;
     while k < got.len() {
         if got[k] != new_word(written, k) {

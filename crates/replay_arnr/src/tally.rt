@@ -9,7 +9,7 @@ fn bump(counts: &mut [u64; 16], at: usize) {
 }
 
 // One more case of a kind from 1 to 6.
-pub fn add(counts: &mut [u64; 16], kind: usize, agrees: bool) {
+pub(crate) fn add(counts: &mut [u64; 16], kind: usize, agrees: bool) {
     bump(counts, 7);
     bump(counts, kind);
     if agrees {
@@ -23,7 +23,7 @@ pub fn add(counts: &mut [u64; 16], kind: usize, agrees: bool) {
 }
 
 // One more build that was run over numbers and over records.
-pub fn add_both(counts: &mut [u64; 16]) {
+pub(crate) fn add_both(counts: &mut [u64; 16]) {
     bump(counts, 0);
 }
 
@@ -60,7 +60,7 @@ fn print_kinds(counts: &[u64; 16]) {
     print(b" builds were run in both forms, over numbers and over records\n");
 }
 
-pub fn print_failure(counts: &[u64; 16], why: &[u8]) {
+pub(crate) fn print_failure(counts: &[u64; 16], why: &[u8]) {
     print_kinds(counts);
     print(b"FAILED: cases, after ");
     io::print_decimal(1, counts[7]);
@@ -70,7 +70,7 @@ pub fn print_failure(counts: &[u64; 16], why: &[u8]) {
 }
 
 // The end of the cases, of which there are to be so many records.
-pub fn print_all(counts: &[u64; 16], records: usize) {
+pub(crate) fn print_all(counts: &[u64; 16], records: usize) {
     if counts[7] != records as u64 {
         print_failure(counts, b"not as many as were written");
         return;

@@ -38,7 +38,7 @@ pub enum Step {
     Cut,
 }
 
-pub fn next(fd: i32, planes: &[u8]) -> Step {
+pub(crate) fn next(fd: i32, planes: &[u8]) -> Step {
     let mut header = [0u8; 80];
     if io::read_full(fd, &mut header) < 80 {
         return Step::Cut;

@@ -3,20 +3,20 @@ use prediction::motion_comp::stored_luma_mv;
 use prediction::motion_vector::Mv;
 
 // The number at an index from 0 to 9.
-pub fn number(header: &[u8; 80], index: usize) -> usize {
+pub(crate) fn number(header: &[u8; 80], index: usize) -> usize {
     stored::number(header, index)
 }
 
-pub fn byte(n: usize) -> u8 {
+pub(crate) fn byte(n: usize) -> u8 {
     (n % 256) as u8
 }
 
-pub fn selector(n: usize) -> u32 {
+pub(crate) fn selector(n: usize) -> u32 {
     (n % 4294967296) as u32
 }
 
 // A 16-bit component that was stored with 32768 added. `!n` is -1 - n.
-pub fn component(biased: usize) -> i16 {
+pub(crate) fn component(biased: usize) -> i16 {
     let n = biased % 65536;
     if 32768 <= n {
         (n - 32768) as i16
@@ -26,7 +26,7 @@ pub fn component(biased: usize) -> i16 {
 }
 
 // A 32-bit number that was stored with 2^31 added.
-pub fn signed(biased: usize) -> i32 {
+pub(crate) fn signed(biased: usize) -> i32 {
     let n = biased % 4294967296;
     if 2147483648 <= n {
         (n - 2147483648) as i32
@@ -35,7 +35,7 @@ pub fn signed(biased: usize) -> i32 {
     }
 }
 
-pub fn vector(packed: usize) -> Mv {
+pub(crate) fn vector(packed: usize) -> Mv {
     let row = component(packed);
     let col = component(packed / 65536);
     Mv { row: row, col: col }
@@ -51,7 +51,7 @@ fn eighths(packed: usize) -> Mv {
     }
 }
 
-pub fn support(packed: usize) -> [u8; 6] {
+pub(crate) fn support(packed: usize) -> [u8; 6] {
     [
         byte(packed),
         byte(packed / 256),
@@ -74,7 +74,7 @@ pub struct Fetch {
     pub mv: Mv,
 }
 
-pub fn fetch_of(header: &[u8; 80]) -> Fetch {
+pub(crate) fn fetch_of(header: &[u8; 80]) -> Fetch {
     let mv = eighths(number(header, 9));
     Fetch {
         start: number(header, 2),
@@ -89,7 +89,7 @@ pub fn fetch_of(header: &[u8; 80]) -> Fetch {
 }
 
 // A part of the planes; nothing where it runs past them.
-pub fn part(planes: &[u8], start: usize, len: usize) -> &[u8] {
+pub(crate) fn part(planes: &[u8], start: usize, len: usize) -> &[u8] {
     if start <= planes.len() {
         if len <= planes.len() - start {
             &planes[start..start + len]

@@ -23,7 +23,7 @@ fn note_first(counts: &mut [u64; 32]) {
     }
 }
 
-pub fn add(counts: &mut [u64; 32], kind: usize, compared: u64, differing: u64) {
+pub(crate) fn add(counts: &mut [u64; 32], kind: usize, compared: u64, differing: u64) {
     note(counts, 15, 1, 0);
     note(counts, 0, compared, differing);
     note(counts, 11, compared, differing);
@@ -53,7 +53,7 @@ fn print_line(counts: &[u64; 32], at: usize, name: &[u8]) {
 }
 
 // Ends a group of planes.
-pub fn print_group(counts: &mut [u64; 32], most: usize) {
+pub(crate) fn print_group(counts: &mut [u64; 32], most: usize) {
     print(b"fetches over planes of at most ");
     io::print_decimal(1, most as u64);
     print_line(counts, 0, b" bytes: ");
@@ -76,7 +76,7 @@ fn print_calls(counts: &[u64; 32]) {
     print_line(counts, 11, b"all: ");
 }
 
-pub fn print_failure(counts: &[u64; 32], why: &[u8]) {
+pub(crate) fn print_failure(counts: &[u64; 32], why: &[u8]) {
     print_calls(counts);
     print(b"FAILED: cases, after ");
     io::print_decimal(1, counts[15]);
@@ -86,7 +86,7 @@ pub fn print_failure(counts: &[u64; 32], why: &[u8]) {
 }
 
 // The end of the cases, of which there are to be so many records.
-pub fn print_all(counts: &[u64; 32], records: usize) {
+pub(crate) fn print_all(counts: &[u64; 32], records: usize) {
     if counts[15] != records as u64 {
         print_failure(counts, b"not as many as were written");
         return;

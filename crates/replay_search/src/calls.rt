@@ -180,7 +180,7 @@ fn same(got: Outcome, refusal: usize, sad: usize, mv: Mv) -> bool {
     got.refusal == refusal && got.sad as usize == sad && found.row == mv.row && found.col == mv.col
 }
 
-pub fn agrees(kind: usize, samples: &[u8], record: &[u8; 128]) -> bool {
+pub(crate) fn agrees(kind: usize, samples: &[u8], record: &[u8; 128]) -> bool {
     let got = answered(kind, samples, record);
     let counts = got.sads as usize == number(record, 14)
         && got.rounds as usize == number(record, 15);

@@ -2,17 +2,17 @@
 use prediction::motion_vector::Mv;
 
 // A byte; 0 past the end.
-pub fn byte_at(bytes: &[u8], at: usize) -> u8 {
+pub(crate) fn byte_at(bytes: &[u8], at: usize) -> u8 {
     if at < bytes.len() { bytes[at] } else { 0 }
 }
 
 // The number at an index from 0 to 15.
-pub fn number(record: &[u8; 128], index: usize) -> usize {
+pub(crate) fn number(record: &[u8; 128], index: usize) -> usize {
     stored::number(record, index)
 }
 
 // A 32-bit number.
-pub fn word(n: usize) -> u32 {
+pub(crate) fn word(n: usize) -> u32 {
     (n % 4294967296) as u32
 }
 
@@ -26,14 +26,14 @@ fn component(biased: usize) -> i16 {
     }
 }
 
-pub fn vector(packed: usize) -> Mv {
+pub(crate) fn vector(packed: usize) -> Mv {
     let row = component(packed);
     let col = component(packed / 65536);
     Mv { row: row, col: col }
 }
 
 // A plane: a part of the samples; nothing where it runs past them.
-pub fn part(samples: &[u8], start: usize, len: usize) -> &[u8] {
+pub(crate) fn part(samples: &[u8], start: usize, len: usize) -> &[u8] {
     if start <= samples.len() {
         if len <= samples.len() - start {
             &samples[start..start + len]
@@ -46,7 +46,7 @@ pub fn part(samples: &[u8], start: usize, len: usize) -> &[u8] {
 }
 
 // A macroblock: 256 of the samples.
-pub fn block(samples: &[u8], start: usize) -> [u8; 256] {
+pub(crate) fn block(samples: &[u8], start: usize) -> [u8; 256] {
     let from = start % 4294967296;
     let mut all = [0u8; 256];
     for k in 0..256usize {

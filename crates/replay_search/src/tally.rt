@@ -9,7 +9,7 @@ fn bump(counts: &mut [u64; 16], at: usize) {
 }
 
 // One more case of a kind from 1 to 6.
-pub fn add(counts: &mut [u64; 16], kind: usize, agrees: bool) {
+pub(crate) fn add(counts: &mut [u64; 16], kind: usize, agrees: bool) {
     bump(counts, 7);
     bump(counts, kind);
     if agrees {
@@ -47,7 +47,7 @@ fn print_calls(counts: &[u64; 16]) {
     print_line(counts, 7, b"all: ");
 }
 
-pub fn print_failure(counts: &[u64; 16], why: &[u8]) {
+pub(crate) fn print_failure(counts: &[u64; 16], why: &[u8]) {
     print_calls(counts);
     print(b"FAILED: cases, after ");
     io::print_decimal(1, counts[7]);
@@ -57,7 +57,7 @@ pub fn print_failure(counts: &[u64; 16], why: &[u8]) {
 }
 
 // The end of the cases, of which there are to be so many records.
-pub fn print_all(counts: &[u64; 16], records: usize) {
+pub(crate) fn print_all(counts: &[u64; 16], records: usize) {
     if counts[7] != records as u64 {
         print_failure(counts, b"not as many as were written");
         return;

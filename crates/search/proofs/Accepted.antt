@@ -9,15 +9,16 @@ use lib.Dec.{ltb}
 use lib.IntN.{ℤ, pos, negℤ, natAbs}
 use lib.ListN.{length}
 use lib.Signed.{ltZ}
-use Rattle.laws.specs.Signed.{lt-false, not-lt, self, one-zero}
-use Rattle.laws.specs.Outcome.{Outcome, refused, accepted, Line, firstOf, Skipped, or-none}
+use Rattle.laws.proofs.Signed.{lt-false, not-lt, self, one-zero}
+use Rattle.laws.specs.Outcome.{Outcome, refused, accepted, Line, firstOf}
+use Rattle.laws.proofs.Outcome.{Skipped, or-none}
 use Rattle.prediction.specs.declared.motion_vector.Mv.{Mv}
 use Rattle.prediction.specs.Plane.{lumaPlane}
 use Rattle.prediction.specs.Refusals.{badSide, shortPlane}
 use Rattle.fetch.proofs.Squares.{sized}
 use Rattle.search.specs.declared.Site.{Site}
 use Rattle.search.specs.Refusals.{outside, outOfRange, notMultiple, offGrid}
-use Rattle.search.specs.Conditions.{InRange, Ready}
+use Rattle.search.specs.Internal.{InRange, Ready}
 
 -- 11
 inside : (z : ℤ) → outside z ≡ false → natAbs z ≤ 1023

@@ -5,13 +5,14 @@ use Prim.Native.Nat.{ℕ}
 use lib.ListN.{length}
 use types.Run.{OneOf, miss}
 use denote.Enum.Declared.{tagOf}
-use Rattle.laws.specs.Outcome.{accepted, Line, firstOf, Skipped, skipped}
+use Rattle.laws.specs.Outcome.{accepted, Line, firstOf}
+use Rattle.laws.proofs.Outcome.{Skipped, skipped}
 use Rattle.prediction.specs.declared.motion_vector.Mv.{Mv}
 use Rattle.search.specs.declared.Site.{Site}
 use Rattle.search.specs.declared.SadAnswer.{SadAnswer}
 use Rattle.search.specs.declared.SadAnswer.the-variants as sad
 use Rattle.search.specs.Refusals.{sadOutcome, gridLines, offGrid}
-use Rattle.search.specs.Conditions.{planeOf, Ready, Copied}
+use Rattle.search.specs.Internal.{planeOf, Ready, Copied}
 use Rattle.search.proofs.SadAnswer.{the-type}
 use Rattle.search.proofs.Accepted.{also-refused, also-accepted}
 use Rattle.search.proofs.Grid.{measured-whole, whole-copied}

@@ -8,11 +8,12 @@ use native.Mathlib.Omega.{arith}
 use borrow.Author.Tests.{ltb-true, ltb-false}
 use lib.Dec.{ltb}
 use lib.IntN.{ℤ, pos, negℤ, _+ℤ_}
-use Rattle.laws.specs.Signed.{eqZ, eqZ-true, eqZ-self}
+use Rattle.laws.specs.Signed.{eqZ}
+use Rattle.laws.proofs.Signed.{eqZ-true, eqZ-self}
 use Rattle.prediction.specs.declared.motion_vector.Mv.{Mv}
 use Rattle.search.specs.declared.DiamondResult.{DiamondResult}
 use Rattle.search.specs.Search.{gridded, sameMv, stepped, measured, tried, roundOf, descend, startAt, diamond}
-use Rattle.search.specs.Conditions.{Good}
+use Rattle.search.specs.Internal.{Good}
 use Rattle.search.proofs.Grid.{whole}
 
 -- equal vectors, and the test for them
@@ -158,11 +159,12 @@ module _ (cost : Mv → ℕ) where
     most : r .rounds ≤ b .rounds + n
     more : r .sads + 4 * b .rounds ≤ b .sads + 4 * r .rounds
     settled : b .sad < n → Settled cost (r .mv)
+    ended : r .rounds < b .rounds + n → Settled cost (r .mv)
 
   down : (n : ℕ) (b : DiamondResult) → Good cost b → Down n b (descend cost n b)
   unfolding descend
   down zero b g =
-      record { good = g; fewer = le-refl _; fall = omega arith; most = omega arith; more = le-refl _; settled = λ h. absurd (omega arith) }
+      record { good = g; fewer = le-refl _; fall = omega arith; most = omega arith; more = le-refl _; settled = λ h. absurd (omega arith); ended = λ h. absurd (omega arith) }
   down (suc n) b g = go (λ k. down n (roundOf cost b) k) (round-is b g) (sameMv (roundOf cost b .mv) (b .mv)) refl
     where
       go : (Good cost (roundOf cost b) → Down n (roundOf cost b) (descend cost n (roundOf cost b))) → Round cost b (roundOf cost b)
@@ -176,6 +178,7 @@ module _ (cost : Mv → ℕ) where
             most = omega (arith, r .rounds);
             more = omega (arith, r .more, r .rounds);
             settled = λ h. r .settled (omega arith);
+            ended = λ h. r .settled (omega arith);
           }
       go ih r false e =
           let l : roundOf cost b .sad < b .sad = moved b g e in
@@ -187,6 +190,7 @@ module _ (cost : Mv → ℕ) where
             most = omega (arith, d .most, r .rounds);
             more = omega (arith, d .more, r .more, r .rounds);
             settled = λ h. d .settled (omega arith);
+            ended = λ h. d .ended (omega (arith, r .rounds));
           }
 
   pub start-good : (centre : Mv) → Good cost (startAt cost centre)
@@ -212,6 +216,11 @@ module _ (cost : Mv → ℕ) where
     pub rounds-limit : diamond cost centre limit .rounds ≤ limit
     unfolding diamond startAt
     rounds-limit = omega (arith, down limit _ (start-good centre) .most)
+
+    -- where they are fewer than the limit, the last was one without a move: no neighbour has a smaller SAD
+    pub ends-settled : diamond cost centre limit .rounds < limit → Settled cost (diamond cost centre limit .mv)
+    unfolding diamond startAt
+    ends-settled h = down limit _ (start-good centre) .ended (omega arith)
 
     -- SADs computed are at most 1 plus 4 times the rounds
     pub sads-most : diamond cost centre limit .sads ≤ 1 + 4 * diamond cost centre limit .rounds

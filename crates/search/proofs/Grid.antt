@@ -8,12 +8,13 @@ use lib.IntN.{ℤ, pos, negsuc, negℤ, natAbs, _+ℤ_, _*ℤ_}
 use lib.Signed.{ltZ, quotZ}
 use mir.Syntax.{w16}
 use mir.Val.{SFits}
-use Rattle.laws.specs.Signed.{above, fits, self, below, same, sum, times, quot, floor, diff, lt-true, lt-false, not-lt, one-zero, eqZ, eq-eqZ, ne-eqZ, parts-same}
+use Rattle.laws.specs.Signed.{above, below, eqZ}
+use Rattle.laws.proofs.Signed.{fits, self, same, sum, times, quot, floor, diff, lt-true, lt-false, not-lt, one-zero, eq-eqZ, ne-eqZ, parts-same}
 use Rattle.prediction.specs.declared.motion_vector.Mv.{Mv}
 use Rattle.search.specs.Search.{clampedMv, onGrid, gridded, stepped, sameMv}
 use Rattle.prediction.specs.Vector.{doubled, wholeOf, fractionOf}
 use Rattle.search.specs.Refusals.{outOfRange, offGrid}
-use Rattle.search.specs.Conditions.{Grid, Whole, Copied}
+use Rattle.search.specs.Internal.{Grid, Whole, Copied}
 use Rattle.search.proofs.Accepted.{in-range, multiple, range-line, grid-line}
 
 -- a component on the grid, and one that is a step away, fit 16 bits

@@ -8,3 +8,4 @@ pub mod Descent
 pub mod Steps
 pub mod Luma
 pub mod Refine
+pub mod Numbers

@@ -9,12 +9,16 @@ use native.Mathlib.Omega.{arith}
 use borrow.Author.Tests.{lt-ltb, le-ltb}
 use lib.Dec.{ltb}
 use lib.IntN.{ℤ, pos, natAbs, _+ℤ_}
-use Rattle.laws.specs.Signed.{above, below, same, sum, diff, self, one-zero, parts-same}
-use Rattle.laws.specs.Best.{bestOf, Best, Chosen, best-is}
+use Rattle.laws.specs.Signed.{above, below}
+use Rattle.laws.proofs.Signed.{same, sum, diff, self, one-zero, parts-same}
+use Rattle.laws.specs.Best.{bestOf}
+use Rattle.laws.proofs.Best.{Best, Chosen, best-is}
 use Rattle.prediction.specs.declared.motion_vector.Mv.{Mv}
 use Rattle.search.specs.Refusals.{outOfRange, offGrid}
-use Rattle.search.specs.Search.{clampedMv, placeOf, stepTo, rasterOf, refine}
-use Rattle.search.specs.Conditions.{Room, InRange}
+use Rattle.search.specs.Search.{clampedMv, rasterOf, refine}
+use Rattle.laws.specs.Square.{squarePlace, stepTo}
+use Rattle.laws.proofs.Square.{place-most}
+use Rattle.search.specs.Internal.{Room, InRange}
 use Rattle.search.proofs.Accepted.{Multiple, in-range, multiple, range-line, grid-line}
 use Rattle.search.proofs.Grid.{clamp-parts}
 
@@ -27,14 +31,6 @@ module _ (cost : Mv → ℕ) (step : ℕ) (centre : Mv) where
   pub refine-sad : refine cost step centre .sad ≡ cost (refine cost step centre .mv)
   unfolding refine
   refine-sad = refl
-
--- the neighbours' places
-pub place-most : (k : ℕ) → k < 8 → placeOf k ≤ 8
-place-most k h = go (decLt k 4)
-  where
-    go : Dec (k < 4) → cond (ltb k 4) k (k + 1) ≤ 8
-    go (yes l) = simp (lt-ltb k 4 l) (omega arith)
-    go (no g) = simp (le-ltb k 4 (omega arith)) (omega arith)
 
 -- a step from a component stays in range, so that clamping changes nothing
 module _ (v : ℤ) (step p : ℕ) (small : p ≤ 2) (room : natAbs v + step ≤ 1023) where
@@ -62,8 +58,8 @@ pub clear : (v : Mv) (step k : ℕ) → k < 8 → Room step v → Clear (rasterO
 unfolding rasterOf
 clear v step k h r =
     let m = place-most k h in
-    let p : placeOf k / 3 ≤ 2 = omega arith in
-    let q : placeOf k % 3 ≤ 2 = omega arith in
+    let p : squarePlace k / 3 ≤ 2 = omega arith in
+    let q : squarePlace k % 3 ≤ 2 = omega arith in
     record {
       range = record { row = step-near (v .row) step _ p (r .row); col = step-near (v .col) step _ q (r .col) };
       row = no-clamp (v .row) step _ p (r .row);
@@ -111,7 +107,7 @@ step-still v step =
     let d = diff (v +ℤ pos (1 * step)) (pos step) in
     same _ _ (omega (arith, one-zero v, s .up, s .dn, d .up, d .dn))
 
-place-same : (j k : ℕ) → placeOf j ≡ placeOf k → j ≡ k
+place-same : (j k : ℕ) → squarePlace j ≡ squarePlace k → j ≡ k
 place-same j k e = go (decLt j 4) (decLt k 4)
   where
     go : Dec (j < 4) → Dec (k < 4) → j ≡ k
@@ -120,7 +116,7 @@ place-same j k e = go (decLt j 4) (decLt k 4)
     go (no a) (yes b) = let d : j + 1 ≡ k = simp (le-ltb j 4 (omega arith), lt-ltb k 4 b) at e in omega arith
     go (no a) (no b) = let d : j + 1 ≡ k + 1 = simp (le-ltb j 4 (omega arith), le-ltb k 4 (omega arith)) at e in omega arith
 
-not-middle : (k : ℕ) → placeOf k ≡ 4 → ⊥
+not-middle : (k : ℕ) → squarePlace k ≡ 4 → ⊥
 not-middle k e = go (decLt k 4)
   where
     go : Dec (k < 4) → ⊥
@@ -131,15 +127,15 @@ module _ (v : Mv) (step : ℕ) (h : 0 < step) where
   not-centre : (k : ℕ) → rasterOf v step k ≡ v → ⊥
   unfolding rasterOf
   not-centre k e =
-      let p = step-same (v .row) step (placeOf k / 3) 1 h (ap (λ (u : Mv). u .row) e ∙ sym (step-still (v .row) step)) in
-      let q = step-same (v .col) step (placeOf k % 3) 1 h (ap (λ (u : Mv). u .col) e ∙ sym (step-still (v .col) step)) in
+      let p = step-same (v .row) step (squarePlace k / 3) 1 h (ap (λ (u : Mv). u .row) e ∙ sym (step-still (v .row) step)) in
+      let q = step-same (v .col) step (squarePlace k % 3) 1 h (ap (λ (u : Mv). u .col) e ∙ sym (step-still (v .col) step)) in
       not-middle k (omega arith)
 
   not-twice : (j k : ℕ) → rasterOf v step j ≡ rasterOf v step k → j ≡ k
   unfolding rasterOf
   not-twice j k e =
-      let p = step-same (v .row) step (placeOf j / 3) (placeOf k / 3) h (ap (λ (u : Mv). u .row) e) in
-      let q = step-same (v .col) step (placeOf j % 3) (placeOf k % 3) h (ap (λ (u : Mv). u .col) e) in
+      let p = step-same (v .row) step (squarePlace j / 3) (squarePlace k / 3) h (ap (λ (u : Mv). u .row) e) in
+      let q = step-same (v .col) step (squarePlace j % 3) (squarePlace k % 3) h (ap (λ (u : Mv). u .col) e) in
       place-same j k (omega arith)
 
   -- skipping never occurs: no neighbour is equal to the best so far
@@ -174,7 +170,7 @@ module _ (cost : Mv → ℕ) (v : Mv) (grid : offGrid 4 v ≡ false) where
   unfolding rasterOf
   even-raster k =
       let m = multiple 4 v grid in
-      record { row = even-step (v .row) (placeOf k / 3) (m .row); col = even-step (v .col) (placeOf k % 3) (m .col) }
+      record { row = even-step (v .row) (squarePlace k / 3) (m .row); col = even-step (v .col) (squarePlace k % 3) (m .col) }
 
   even-centre : Multiple 2 v
   even-centre =

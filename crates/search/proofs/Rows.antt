@@ -6,11 +6,12 @@ use native.Mathlib.Nat.{mul-le-mul-right, add-mul}
 use native.Mathlib.Omega.{arith}
 use lib.ListN.{getD}
 use borrow.Rule.Slice.PartMut.{midOf}
-use Rattle.laws.specs.Sums.{sumBelow, sum-same, sum-split, sum-plus}
-use Rattle.laws.specs.Slices.{mid-at}
+use Rattle.laws.specs.Sums.{sumBelow}
+use Rattle.laws.proofs.Sums.{sum-same, sum-split, sum-plus}
+use Rattle.laws.proofs.Slices.{mid-at}
 use Rattle.prediction.specs.Samples.{distance}
 use Rattle.search.specs.Sad.{sad16}
-use Rattle.search.specs.Conditions.{twoApart}
+use Rattle.search.specs.Internal.{twoApart}
 
 -- row r ends within the list
 pub row-ends : (at stride r n : ℕ) → at + 15 * stride + 16 ≤ n → r < 16 → at + r * stride + 16 ≤ n

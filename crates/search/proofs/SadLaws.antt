@@ -9,9 +9,11 @@ use native.Mathlib.Omega.{arith}
 use borrow.Author.Tests.{le-ltb}
 use lib.IntN.{ℤ, pos, _+ℤ_, _*ℤ_}
 use lib.ListN.{length, getD, List·getD-eq-default}
-use Rattle.laws.specs.Signed.{above, below, floor, times, diff, one-zero, less-of, less-pos, less-sum, above-less}
-use Rattle.laws.specs.Tabulate.{length-tabulate}
-use Rattle.laws.specs.Sums.{sumBelow, sum-same, sum-most}
+use Rattle.laws.specs.Signed.{above, below}
+use Rattle.laws.proofs.Signed.{floor, times, diff, one-zero, less-of, less-pos, less-sum, above-less}
+use Rattle.laws.proofs.Tabulate.{length-tabulate}
+use Rattle.laws.specs.Sums.{sumBelow}
+use Rattle.laws.proofs.Sums.{sum-same, sum-most}
 use Rattle.laws.specs.Outcome.{firstOf}
 use Rattle.prediction.specs.declared.motion_vector.Mv.{Mv}
 use Rattle.prediction.specs.Samples.{distance}
@@ -25,7 +27,7 @@ use Rattle.sixtap.specs.Refusals.{filterLines}
 use Rattle.sixtap.proofs.Laws.{square-at, predicted-byte, filtered-halo, whole-copy, sample-byte}
 use Rattle.search.specs.declared.Site.{Site}
 use Rattle.search.specs.Sad.{sad16, costOf}
-use Rattle.search.specs.Conditions.{planeOf, costAt, copiedAt, predictedFrom, Ready, Copied, Inside}
+use Rattle.search.specs.Internal.{planeOf, costAt, copiedAt, predictedFrom, Ready, Copied, Inside}
 use Rattle.search.proofs.Accepted.{placed}
 use Rattle.search.proofs.Rows.{apart}
 

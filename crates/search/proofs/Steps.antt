@@ -9,7 +9,7 @@ use lib.IntN.{ℤ}
 use Rattle.prediction.specs.declared.motion_vector.Mv.{Mv}
 use Rattle.search.specs.declared.DiamondResult.{DiamondResult}
 use Rattle.search.specs.Search.{gridded, sameMv, stepped, tried, roundOf, descend, startAt}
-use Rattle.search.specs.Conditions.{Good}
+use Rattle.search.specs.Internal.{Good}
 use Rattle.search.proofs.Descent.{round-is, still, moving, start-good}
 
 -- the neighbour n is skipped, is better, or is not

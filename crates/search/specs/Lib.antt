@@ -1,4 +1,4 @@
 pub mod Sad
 pub mod Search
 pub mod Refusals
-pub mod Conditions
+pub mod Internal

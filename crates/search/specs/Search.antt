@@ -1,11 +1,12 @@
 -- The motion searches of document 01, over any cost of a vector. Assumes nothing.
 use mathlib.Core.Bool.{Bool, cond, _&&_}
-use Prim.Native.Nat.{ℕ, zero, suc, _+_, _*_, _/_, _%_}
+use Prim.Native.Nat.{ℕ, zero, suc, _+_, _/_, _%_}
 use lib.Dec.{ltb}
-use lib.IntN.{ℤ, pos, negℤ, _+ℤ_, _-ℤ_, _*ℤ_}
+use lib.IntN.{ℤ, pos, negℤ, _+ℤ_, _*ℤ_}
 use lib.Signed.{ltZ, quotZ}
 use Rattle.laws.specs.Signed.{eqZ}
 use Rattle.laws.specs.Best.{bestOf}
+use Rattle.laws.specs.Square.{squarePlace, stepTo}
 use Rattle.prediction.specs.declared.motion_vector.Mv.{Mv}
 use Rattle.search.specs.declared.DiamondResult.{DiamondResult}
 use Rattle.search.specs.declared.SearchResult.{SearchResult}
@@ -76,17 +77,9 @@ startAt cost centre = record { mv = gridded centre; sad = cost (gridded centre);
 unfoldable pub diamond : (Mv → ℕ) → Mv → ℕ → DiamondResult
 diamond cost centre limit = descend cost limit (startAt cost centre)
 
--- the places 0 .. 8 of a 3 by 3 square, row by row, without the middle one
-abbrev pub placeOf : ℕ → ℕ
-placeOf k = cond (ltb k 4) k (k + 1)
-
--- a component less one step, and as many steps more as the place says
-abbrev pub stepTo : ℤ → ℕ → ℕ → ℤ
-stepTo z place step = z +ℤ pos (place * step) -ℤ pos step
-
 -- the eight neighbours of a vector in raster order
 unfoldable pub rasterOf : Mv → ℕ → ℕ → Mv
-rasterOf v step k = record { row = stepTo (v .row) (placeOf k / 3) step; col = stepTo (v .col) (placeOf k % 3) step }
+rasterOf v step k = record { row = stepTo (v .row) (squarePlace k / 3) step; col = stepTo (v .col) (squarePlace k % 3) step }
 
 -- a vector with its SAD
 abbrev pub measuredAt : (Mv → ℕ) → Mv → SearchResult

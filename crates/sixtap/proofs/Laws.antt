@@ -5,9 +5,10 @@ use Prim.Native.Nat.{ℕ, zero, suc, _+_, _-_, _*_, _/_, _%_, _≤_, _<_, min}
 use native.Mathlib.Omega.{arith}
 use lib.ListN.{getD}
 use lib.IntN.{ℤ, pos, _+ℤ_, _-ℤ_, _*ℤ_}
-use lib.Signed.{shrZ}
-use Rattle.laws.specs.Signed.{above, below, same, sum, diff}
-use Rattle.laws.specs.Tabulate.{tabulate, tabulate-same, getD-tabulate}
+use Rattle.laws.specs.Signed.{above, below, floorDiv}
+use Rattle.laws.proofs.Signed.{same, sum, diff}
+use Rattle.laws.specs.Tabulate.{tabulate}
+use Rattle.laws.proofs.Tabulate.{tabulate-same, getD-tabulate}
 use Rattle.prediction.specs.Samples.{clamped255}
 use Rattle.prediction.specs.Plane.{Samples, Plane, sampleAt}
 use Rattle.prediction.specs.Filter.{FilterRows, products, filtered, sixtap}
@@ -23,7 +24,7 @@ module _ (tap : ℕ → ℤ) (f g : ℕ → ℕ) where
 
   pub filtered-same : ((k : ℕ) → k < 6 → f k ≡ g k) → filtered tap f ≡ filtered tap g
   unfolding filtered
-  filtered-same h = ap (λ (z : ℤ). clamped255 (shrZ (z +ℤ pos 64) 128)) (products-same 6 h)
+  filtered-same h = ap (λ (z : ℤ). clamped255 (floorDiv (z +ℤ pos 64) 128)) (products-same 6 h)
 
 pub filtered-byte : (tap : ℕ → ℤ) (f : ℕ → ℕ) → filtered tap f < 256
 unfolding filtered

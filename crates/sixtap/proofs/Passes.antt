@@ -5,7 +5,8 @@ use Prim.Native.Nat.{ℕ, zero, suc, _+_, _*_, _/_, _%_, _<_}
 use native.Mathlib.Omega.{arith}
 use lib.ListN.{getD}
 use lib.IntN.{ℤ, pos, _+ℤ_, _-ℤ_}
-use Rattle.laws.specs.Tabulate.{tabulate, tabulate-same, getD-tabulate}
+use Rattle.laws.specs.Tabulate.{tabulate}
+use Rattle.laws.proofs.Tabulate.{tabulate-same, getD-tabulate}
 use Rattle.prediction.specs.Filter.{filtered, sixtap}
 use Rattle.prediction.specs.Prediction.{horizontalAt, verticalAt, squareOf, haloSamples, filteredMb}
 use Rattle.sixtap.specs.Internal.{window, filteredList, acrossOf, downOf}

@@ -5,7 +5,7 @@ use Prim.Native.Nat.{ℕ, suc, _+_, _-_, _*_, _/_, min}
 use native.Mathlib.Omega.{arith}
 use lib.ListN.{getD}
 use lib.IntN.{ℤ, pos, negℤ, _+ℤ_, _*ℤ_}
-use Rattle.laws.specs.Signed.{times, neg, floor, Less, less-pos, less-sum, above-less}
+use Rattle.laws.proofs.Signed.{times, neg, floor, Less, less-pos, less-sum, above-less}
 use Rattle.prediction.specs.Filter.{products, filtered, sixtapRows, sixtap}
 use Rattle.sixtap.specs.declared.Taps.{Taps}
 use Rattle.sixtap.specs.Internal.{Row, sampleOf, filteredList}

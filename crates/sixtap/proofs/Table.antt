@@ -10,8 +10,9 @@ use lib.IntN.{ℤ, pos, natAbs, negℤ}
 use mir.Syntax.{w32}
 use mir.Val.{SFits}
 use mir.Facts.{and-yes}
-use Rattle.laws.specs.Tables.{every, at}
-use Rattle.laws.specs.Signed.{above, below, self, neg, same}
+use Rattle.laws.proofs.Tables.{every, at}
+use Rattle.laws.specs.Signed.{above, below}
+use Rattle.laws.proofs.Signed.{self, neg, same}
 use Rattle.prediction.specs.Filter.{sixtapRows, sixtap}
 
 small : ℤ → Bool

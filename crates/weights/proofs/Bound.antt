@@ -8,7 +8,9 @@ use native.Mathlib.Decide.{decLe}
 use native.Mathlib.Omega.{arith}
 use lib.ListN.{length, getD}
 use Rattle.laws.specs.Sums.{sumOver}
-use Rattle.laws.specs.Largest.{le-largest, nearest, nearest-le}
+use Rattle.laws.specs.Largest.{nearest}
+use Rattle.laws.proofs.Largest.{le-largest, nearest-le}
+use Rattle.laws.proofs.Each.{Each, each-map}
 use Rattle.prediction.specs.Samples.{distance}
 use Rattle.weights.specs.Blend.{totalWeight, weightedSum, denoised, distanceBound}
 
@@ -43,11 +45,6 @@ rounds-near sum total centre a b pos up down small =
         let z : centre - b ≡ 0 = omega arith in
         omega (arith, ap (λ (t : ℕ). t * total) z)
 
--- P holds of each frame of the list
-abbrev pub Each : {F : Type 0} → (F → Type 0) → List F → Type 0
-Each P [] = Unit {0}
-Each P (f ∷ fs) = P f × Each P fs
-
 pub each-all : {F : Type 0} {P : F → Type 0} (all : (f : F) → P f) (others : List F) → Each P others
 each-all all [] = tt
 each-all all (f ∷ fs) = (all f, each-all all fs)
@@ -55,10 +52,6 @@ each-all all (f ∷ fs) = (all f, each-all all fs)
 pub each-at : {F : Type 0} (P : F → Type 0) (d : F) (others : List F) → ((k : ℕ) → k < length others → P (getD others k d)) → Each P others
 each-at P d [] at = tt
 each-at P d (f ∷ fs) at = (at 0 (omega arith), each-at P d fs (λ k h. at (suc k) (omega arith)))
-
-each-map : {F : Type 0} {P Q : F → Type 0} (step : (f : F) → P f → Q f) (others : List F) → Each P others → Each Q others
-each-map step [] e = tt
-each-map step (f ∷ fs) e = (step f (e .0), each-map step fs (e .1))
 
 -- what is asked of a frame: its displaced sample is a byte, and its share is at most the curve's weight of their difference.
 -- A share may be less: a cap, or 0 for an excluded block.

@@ -8,8 +8,9 @@ use native.Mathlib.Omega.{arith}
 use lib.Pow.{pow-pos}
 use lib.ListN.{length, getD, replicate, length-replicate, getD-replicate}
 use lib.Seq.{ext-getD}
-use Rattle.laws.specs.Tables.{listed}
-use Rattle.laws.specs.Tabulate.{tabulate, length-tabulate, getD-tabulate, tabulate-same}
+use Rattle.laws.proofs.Tables.{listed}
+use Rattle.laws.specs.Tabulate.{tabulate}
+use Rattle.laws.proofs.Tabulate.{length-tabulate, getD-tabulate, tabulate-same}
 use Rattle.weights.specs.Weights.{scale, weightOf, weightRead}
 
 -- the rows of n strengths by their rule

@@ -7,10 +7,13 @@ use native.Mathlib.Omega.{arith}
 use borrow.Author.Tests.{ltb-false, leb-false, eqb-true, eqb-false, not-false}
 use lib.Dec.{ltb, eqb}
 use lib.ListN.{length}
-use Rattle.laws.specs.Outcome.{accepted, skipped, answered, or-none}
-use Rattle.laws.specs.First.{firstBelow, is-first}
+use Rattle.laws.specs.Outcome.{accepted}
+use Rattle.laws.proofs.Outcome.{skipped, answered, or-none}
+use Rattle.laws.specs.First.{firstBelow}
+use Rattle.laws.proofs.First.{is-first}
 use Rattle.prediction.specs.Plane.{bytesNeeded}
 use Rattle.prediction.specs.Refusals.{badSide}
+use Rattle.fetch.proofs.Squares.{sized}
 use Rattle.window.specs.declared.Size.{Size}
 use Rattle.window.specs.declared.Refusal.{Refusal}
 use Rattle.window.specs.declared.Checked.{Checked}
@@ -35,14 +38,6 @@ pub record Built (c : Given) (s : Size) : Type 0 where
   pub output : packedSize (s .width) (s .height) ≤ c .output
   pub sums : packedSize (s .width) (s .height) ≤ c .sums
   pub weights : packedSize (s .width) (s .height) ≤ c .weights
-
--- a legal side
-pub legal-side : (n : ℕ) → badSide n ≡ false → (0 < n) × (n ≤ 16383)
-legal-side n e =
-    let p = or-none (eqb n 0) (ltb 16383 n) e in
-    let q = eqb-false n 0 (p .0) in
-    let r = ltb-false 16383 n (p .1) in
-    omega arith
 
 same-number : (a b : ℕ) → not (eqb a b) ≡ false → a ≡ b
 same-number a b e = eqb-true a b (not-false (eqb a b) e)
@@ -75,8 +70,8 @@ built c s e =
     let t = skipped (buildLines c) (sizeOf (centreOf c)) s e in
     let size-is = answered (buildLines c) (sizeOf (centreOf c)) s e in
     let sides = or-none (badSide (centreOf c .width)) (badSide (centreOf c .height)) (t .1 .1 .0) in
-    let w = legal-side (centreOf c .width) (sides .0) in
-    let h = legal-side (centreOf c .height) (sides .1) in
+    let w = sized (centreOf c .width) (sides .0) in
+    let h = sized (centreOf c .height) (sides .1) in
     let p = packedSize (centreOf c .width) (centreOf c .height) in
     let n = countOf c in
     let working = or-none (ltb (c .sums) p) (ltb (c .weights) p) (t .1 .1 .1 .1 .1 .1 .0) in

@@ -1,3 +1,4 @@
+pub mod Frames
 mod Scan
 mod Lines
 pub mod Built

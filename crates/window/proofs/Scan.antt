@@ -4,10 +4,10 @@ use mathlib.Core.Bool.{Bool, true, false}
 use mathlib.Core.List.{List}
 use Prim.Native.Nat.{ℕ, _+_, _≤_, _<_}
 use native.Mathlib.Omega.{arith}
-use Rattle.laws.specs.First.{Passed, pass-none, pass-more, found, not-found}
+use Rattle.laws.proofs.First.{Passed, pass-none, pass-more, found, not-found}
 use Rattle.window.specs.declared.Frame.{Frame}
 use Rattle.window.specs.Frames.{frameCount, frameAt}
-use Rattle.window.specs.Steps.{firstFrame}
+use Rattle.window.specs.Internal.{firstFrame}
 
 -- no frame before g has it
 pub record Scanned (p : Frame → Bool) (numbers : List ℕ) (g : ℕ) : Type 0 where

@@ -1,6 +1,8 @@
 -- Frames as numbers: seven for each frame, in document 01's order. Assumes nothing.
+use mathlib.Core.Bool.{cond}
 use mathlib.Core.List.{List}
 use Prim.Native.Nat.{ℕ, zero, suc, _+_, _*_, _/_}
+use lib.Dec.{ltb}
 use lib.ListN.{length, getD}
 use Rattle.prediction.specs.Plane.{Plane}
 use Rattle.window.specs.declared.Frame.{Frame}
@@ -14,11 +16,11 @@ numbersPerFrame = 7
 abbrev pub frameCount : List ℕ → ℕ
 frameCount numbers = length numbers / numbersPerFrame
 
--- number k of frame g
-abbrev pub numberAt : List ℕ → ℕ → ℕ → ℕ
-numberAt numbers g k = getD numbers (g * numbersPerFrame + k) 0
+-- number k of frame g; from the frame count on there is none, and 0 stands for it
+unfoldable pub numberAt : List ℕ → ℕ → ℕ → ℕ
+numberAt numbers g k = cond (ltb g (frameCount numbers)) (getD numbers (g * numbersPerFrame + k) 0) 0
 
--- width, height, start of Y, of U, of V, luma stride, chroma stride
+-- frame g: width, height, start of Y, of U, of V, luma stride, chroma stride; from the frame count on, the frame of zeros
 abbrev pub frameAt : List ℕ → ℕ → Frame
 frameAt numbers g =
     record {
@@ -30,6 +32,10 @@ frameAt numbers g =
       «luma_stride» = numberAt numbers g 5;
       «chroma_stride» = numberAt numbers g 6;
     }
+
+-- the frame of zeros
+abbrev pub zeroFrame : Frame
+zeroFrame = record { width = 0; height = 0; y = 0; u = 0; v = 0; «luma_stride» = 0; «chroma_stride» = 0 }
 
 -- where a plane starts, and its stride
 abbrev pub startOf : ℕ → Frame → ℕ

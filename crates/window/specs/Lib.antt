@@ -1,4 +1,4 @@
 pub mod Layout
 pub mod Frames
 pub mod Refusals
-pub mod Steps
+pub mod Internal

@@ -7,7 +7,7 @@ ghost use Rattle.prediction.specs.Refusals.{badSide};
 ghost use Rattle.window.specs.Layout.{half, packedSize};
 ghost use Rattle.window.specs.Frames.{numbersPerFrame, frameCount, numberAt, frameAt};
 ghost use Rattle.window.specs.Refusals.{sizeOf, checks, checkedOutcome, given};
-ghost use Rattle.window.specs.Steps.{sizeDiffers, planesUnfit, firstFrame};
+ghost use Rattle.window.specs.Internal.{sizeDiffers, planesUnfit, firstFrame};
 
 // A frame: its size, where its planes start in the picture bytes, and the bytes from row to row.
 #[repr(C)]
@@ -54,22 +54,18 @@ pub fn frame_count(numbers: &[u32]) -> usize
     numbers.len() / NUMBERS_PER_FRAME
 }
 
-// Number k of frame g; 0 past the end.
+// Number k of frame g; 0 from the frame count on.
 fn number_at(numbers: &[u32], g: usize, k: usize) -> u32
     requires { ⌜ k < numbersPerFrame ⌝ }
     ensures { λ r. ⌜ r ≡ numberAt (now (numbers .entry)) g k ⌝ }
 {
-    if frame_count(numbers) < g {
+    if frame_count(numbers) <= g {
         return 0;
     }
-    let i = g * NUMBERS_PER_FRAME + k;
-    if numbers.len() <= i {
-        return 0;
-    }
-    numbers[i]
+    numbers[g * NUMBERS_PER_FRAME + k]
 }
 
-// Frame g; its numbers past the end are 0.
+// Frame g; from the frame count on, the frame of zeros.
 pub fn frame_at(numbers: &[u32], g: usize) -> Frame
     ensures { λ r. ⌜ r ≡ frameAt (now (numbers .entry)) g ⌝ }
 {
@@ -94,24 +90,11 @@ fn size_of(f: Frame) -> Size
     }
 }
 
-// A width or height that is 0 or above 16383.
-fn bad_side(n: u32) -> bool
-    ensures { λ r. ⌜ r ≡ badSide n ⌝ }
-{
-    if n == 0 {
-        return true;
-    }
-    16383 < n
-}
-
 // 3: the frame's width or height is bad.
 fn bad_size(f: Frame) -> bool
     ensures { λ r. ⌜ r ≡ (badSide (f .width) || badSide (f .height)) ⌝ }
 {
-    if bad_side(f.width) {
-        return true;
-    }
-    bad_side(f.height)
+    fetch::bad_size(f.width as usize, f.height as usize)
 }
 
 // 4 of one frame: its size differs from the centre's.

@@ -38,8 +38,9 @@ fn answer_at(input: &Input) -> Pair {
     let lent = Guarded::holding(&input.list, input.salt);
     let got = model::frame_at(lent.slice(), input.size("g"));
     let said = [got.width, got.height, got.y, got.u, got.v, got.luma_stride, got.chroma_stride].map(i64::from);
-    let number = |k: i128| usize::try_from(input.get("g") * 7 + k).ok().and_then(|i| input.list.get(i).copied());
-    let wanted: [i64; 7] = std::array::from_fn(|k| number(k as i128).unwrap_or(0).into());
+    // whole frames only: numbers left over are not read
+    let frame = input.list.chunks_exact(7).nth(input.size("g"));
+    let wanted: [i64; 7] = std::array::from_fn(|k| frame.map_or(0, |numbers| numbers[k].into()));
     Pair { model: Answer::new(0, &said).constant("numbers", &lent), expected: Answer::new(0, &wanted) }
 }
 

@@ -54,7 +54,8 @@ use Rattle.window.specs.declared.Frame.{Frame}
 use Rattle.denoiser.specs.declared.BuildAnswer.{BuildAnswer}
 use Rattle.denoiser.specs.Demand.{Held}
 use Rattle.denoiser.specs.Build.{asked, BuildInput, BuildIs}
-use Rattle.altref.specs.Records.{arraySize, flat, filled, takenOf, OverArray}
+use Rattle.altref.specs.Records.{flat}
+use Rattle.altref.specs.Internal.{arraySize, filled, takenOf, OverArray}
 use Rattle.altref.proofs.Laws.{begins, taken-few, taken-there}
 use Rattle.window.proofs.Frame as T
 use Rattle.weights.specs.declared.ArnrConfig.{ArnrConfig}

@@ -55,8 +55,8 @@ use denote.Triple.Table.{entered, cited}
 use denote.Triple.Walked.{says, needs, Stays, stay-none, stay-none-slice, walkOf, goes-none, goes-none-slice, Walks, ends-at, walked, walk-meets}
 use denote.Exit.{yes}
 use Rattle.window.specs.declared.Frame.{Frame}
-use Rattle.window.specs.Frames.{numbersPerFrame}
-use Rattle.altref.specs.Records.{maxFrames, arraySize, zeroFrame, putFrame, filled}
+use Rattle.window.specs.Frames.{numbersPerFrame, zeroFrame}
+use Rattle.altref.specs.Internal.{maxFrames, arraySize, putFrame, filled}
 use Rattle.window.proofs.Frame as T
 use Rattle.window.proofs.Frame.Laws as T′
 use Rattle.altref.proofs.no_numbers as start

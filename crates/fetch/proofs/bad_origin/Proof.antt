@@ -4,7 +4,7 @@ use Rattle.fetch.proofs.bad_origin.Statement.{statement}
 use Rattle.fetch.proofs.bad_origin.Tie as tie
 use borrow.Author.Tests.{lt-ltb, le-ltb}
 use mathlib.Core.Path.{refl}
-use Rattle.laws.specs.Outcome.{or-first, or-second}
+use Rattle.laws.proofs.Outcome.{or-first, or-second}
 
 returns : tie.Need-returns
 returns c = or-first _ _ (lt-ltb _ _ (c .if1 .taken))

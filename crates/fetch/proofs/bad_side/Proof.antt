@@ -4,7 +4,7 @@ use Rattle.fetch.proofs.bad_side.Statement.{statement}
 use Rattle.fetch.proofs.bad_side.Tie as tie
 use borrow.Author.Tests.{eq-eqb, ne-eqb}
 use mathlib.Core.Path.{refl}
-use Rattle.laws.specs.Outcome.{or-first, or-second}
+use Rattle.laws.proofs.Outcome.{or-first, or-second}
 
 returns : tie.Need-returns
 returns c = or-first _ _ (eq-eqb _ _ (c .if1 .taken))

@@ -3,7 +3,7 @@ use borrow.Author.Needs.{needs}
 use Rattle.fetch.proofs.bad_size.Statement.{statement}
 use Rattle.fetch.proofs.bad_size.Tie as tie
 use mathlib.Core.Path.{sym, _∙_}
-use Rattle.laws.specs.Outcome.{or-first, or-second}
+use Rattle.laws.proofs.Outcome.{or-first, or-second}
 
 bad-side-requires : tie.Need-bad-side-requires
 bad-side-requires c κs = search needs

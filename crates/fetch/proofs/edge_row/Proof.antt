@@ -6,7 +6,8 @@ use mathlib.Core.List.{List}
 use mathlib.Core.Path.{_≡_, refl, ap, _∙_}
 use Prim.Native.Nat.{ℕ, _+_, _-_, _*_, _≤_, _<_, min}
 use lib.ListN.{length}
-use Rattle.laws.specs.Tabulate.{Filling, fill-at, fill-turn}
+use Rattle.laws.specs.Internal.{Filling}
+use Rattle.laws.proofs.Tabulate.{fill-at, fill-turn}
 use Rattle.prediction.specs.Plane.{lumaPlane}
 use Rattle.fetch.specs.Internal.{entry}
 use Rattle.fetch.proofs.Squares.{within, row-room, write-fits, edge-entry, next, fewer}

@@ -1,7 +1,8 @@
 -- `halo_inside` meets its contract: row after row. Assumes nothing.
 use native.Mathlib.Omega.{arith}
 use Prim.Native.Nat.{ℕ, _+_, _-_, _*_, _≤_, _<_}
-use Rattle.laws.specs.Tabulate.{Filling, fill-start, fill-at, fill-end}
+use Rattle.laws.specs.Internal.{Filling}
+use Rattle.laws.proofs.Tabulate.{fill-start, fill-at, fill-end}
 use Rattle.prediction.specs.Plane.{lumaPlane}
 use Rattle.fetch.specs.Internal.{entry}
 use Rattle.fetch.proofs.Squares.{next, fewer}

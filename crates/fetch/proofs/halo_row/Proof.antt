@@ -5,7 +5,9 @@ use mathlib.Core.Path.{_≡_, refl, ap, _∙_}
 use mathlib.Core.List.{List}
 use Prim.Native.Nat.{ℕ, _+_, _-_, _*_, _≤_, _<_}
 use lib.ListN.{length, getD}
-use Rattle.laws.specs.Tabulate.{Filling, fill-at, fill-turn, tabulate, length-tabulate, getD-tabulate}
+use Rattle.laws.specs.Tabulate.{tabulate}
+use Rattle.laws.specs.Internal.{Filling}
+use Rattle.laws.proofs.Tabulate.{fill-at, fill-turn, length-tabulate, getD-tabulate}
 use Rattle.prediction.specs.Plane.{lumaPlane}
 use Rattle.fetch.specs.Internal.{entry}
 use Rattle.fetch.proofs.Squares.{row-room, part-fits, inside-entry, next, fewer}

@@ -7,34 +7,35 @@ use Prim.Native.Nat.{ℕ, _+_, _-_, _<_}
 use mathlib.Core.Path.{_≡_, _∙_, ap}
 use lib.Dec.{T}
 use lib.IntN.{ℤ, pos, _+ℤ_, natAbs}
-use lib.Signed.{nonNeg, shrZ}
+use lib.Signed.{nonNeg}
 use mir.Syntax.{w16, w32, w64}
 use mir.Val.{SFits, Fits}
 use mir.Facts.{toZ-ofZ}
-use Rattle.laws.specs.Signed.{above, below, signs, range, sum, floor}
+use Rattle.laws.specs.Signed.{above, below, floorDiv}
+use Rattle.laws.proofs.Signed.{signs, range, sum, floor}
 use Rattle.prediction.specs.Vector.{wholeOf}
 
 module _ (v : ℤ) (f : SFits w16 v) where
-  whole : SFits w32 (shrZ v 8)
+  whole : SFits w32 (floorDiv v 8)
   whole = omega (arith, range f, floor v 7)
 
-  raised : SFits w32 (shrZ v 8 +ℤ pos 4096)
-  raised = omega (arith, range f, floor v 7 .up, floor v 7 .dn, sum (shrZ v 8) (pos 4096))
+  raised : SFits w32 (floorDiv v 8 +ℤ pos 4096)
+  raised = omega (arith, range f, floor v 7 .up, floor v 7 .dn, sum (floorDiv v 8) (pos 4096))
 
-  raised-unsigned : T (nonNeg (shrZ v 8 +ℤ pos 4096)) × Fits w64 (natAbs (shrZ v 8 +ℤ pos 4096))
-  raised-unsigned = omega (arith, signs, range f, floor v 7 .up, floor v 7 .dn, sum (shrZ v 8) (pos 4096))
+  raised-unsigned : T (nonNeg (floorDiv v 8 +ℤ pos 4096)) × Fits w64 (natAbs (floorDiv v 8 +ℤ pos 4096))
+  raised-unsigned = omega (arith, signs, range f, floor v 7 .up, floor v 7 .dn, sum (floorDiv v 8) (pos 4096))
 
-  raised-is : natAbs (shrZ v 8 +ℤ pos 4096) ≡ 4096 + above (wholeOf v) - below (wholeOf v)
-  raised-is = omega (arith, range f .least, floor v 7 .up, floor v 7 .dn, sum (shrZ v 8) (pos 4096))
+  raised-is : natAbs (floorDiv v 8 +ℤ pos 4096) ≡ 4096 + above (wholeOf v) - below (wholeOf v)
+  raised-is = omega (arith, range f .least, floor v 7 .up, floor v 7 .dn, sum (floorDiv v 8) (pos 4096))
 
-  raised-small : natAbs (shrZ v 8 +ℤ pos 4096) < 8192
-  raised-small = omega (arith, range f, floor v 7 .up, floor v 7 .dn, sum (shrZ v 8) (pos 4096))
+  raised-small : natAbs (floorDiv v 8 +ℤ pos 4096) < 8192
+  raised-small = omega (arith, range f, floor v 7 .up, floor v 7 .dn, sum (floorDiv v 8) (pos 4096))
 
 module _ (c : tie.After-whole-offset) where
   f : SFits w16 (c .before .args .v)
   f = c .before .fits .v
 
-  is : c .whole-offset .result ≡ shrZ (c .before .args .v) 8
+  is : c .whole-offset .result ≡ floorDiv (c .before .args .v) 8
   is = c .whole-offset .ensures ∙ ap wholeOf (toZ-ofZ f)
 
 whole-offset-requires : tie.Need-whole-offset-requires

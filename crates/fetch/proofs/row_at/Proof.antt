@@ -4,7 +4,8 @@ use Prim.Native.Nat.{ℕ, _+_, _-_, _≤_, _<_}
 use native.Mathlib.Omega.{arith}
 use lib.ListN.{length, getD}
 use borrow.Author.Needs.{needs}
-use Rattle.laws.specs.Tabulate.{Filling, fill-start, fill-turn, fill-end}
+use Rattle.laws.specs.Internal.{Filling}
+use Rattle.laws.proofs.Tabulate.{fill-start, fill-turn, fill-end}
 use Rattle.fetch.proofs.row_at.Statement.{statement}
 use Rattle.fetch.proofs.row_at.Tie as tie
 

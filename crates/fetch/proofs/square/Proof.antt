@@ -7,7 +7,8 @@ use mathlib.Core.Bool.{true}
 use mathlib.Core.Path.{_≡_, refl, sym, _∙_}
 use Prim.Native.Nat.{ℕ, _+_, _-_, _*_, _≤_, _<_}
 use lib.ListN.{length}
-use Rattle.laws.specs.Tabulate.{Filling, fill-start, fill-at, fill-end}
+use Rattle.laws.specs.Internal.{Filling}
+use Rattle.laws.proofs.Tabulate.{fill-start, fill-at, fill-end}
 use Rattle.prediction.specs.Plane.{lumaPlane}
 use Rattle.fetch.specs.Internal.{entry, Inside}
 use Rattle.fetch.proofs.Squares.{next, fewer}

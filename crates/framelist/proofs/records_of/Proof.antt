@@ -5,7 +5,7 @@ use native.Mathlib.Omega.{arith}
 use lib.ListN.{length-replicate, getD-replicate}
 use borrow.Author.Needs.{needs}
 use Rattle.window.specs.declared.Frame.{Frame}
-use Rattle.altref.specs.Records.{zeroFrame}
+use Rattle.window.specs.Frames.{zeroFrame}
 use Rattle.framelist.specs.Lists.{arrayRecords, Listed}
 use Rattle.framelist.proofs.Takes.{more-listed}
 use Rattle.framelist.proofs.records_of.Statement.{statement}

@@ -4,7 +4,8 @@ use Prim.Native.Nat.{ℕ, _≤_, _<_, _-_, _+_, _*_, _/_, _%_}
 use mathlib.Core.List.{List}
 use mathlib.Core.Path.{_≡_, refl, _∙_, ap, subst}
 use lib.ListN.{length}
-use Rattle.laws.specs.Tabulate.{Filling, fill-turn, fill-at}
+use Rattle.laws.specs.Internal.{Filling}
+use Rattle.laws.proofs.Tabulate.{fill-turn, fill-at}
 use Rattle.sixtap.specs.Internal.{sampleOf}
 use Rattle.sixtap.specs.declared.Taps.{Taps}
 use Rattle.sixtap.specs.Internal.{window, across}

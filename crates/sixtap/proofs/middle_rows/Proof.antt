@@ -4,7 +4,8 @@ use Prim.Native.Nat.{ℕ, _≤_, _<_, _-_, _+_, _*_, _/_, _%_, min}
 use mathlib.Core.List.{List}
 use mathlib.Core.Path.{_≡_, refl, _∙_, ap, subst}
 use lib.ListN.{length, getD}
-use Rattle.laws.specs.Tabulate.{Filling, fill-start, fill-turn, fill-end}
+use Rattle.laws.specs.Internal.{Filling}
+use Rattle.laws.proofs.Tabulate.{fill-start, fill-turn, fill-end}
 use Rattle.prediction.specs.Filter.{filtered}
 use Rattle.sixtap.proofs.Sizes.{zero-law}
 use Rattle.sixtap.specs.Internal.{window, acrossOf, downOf}

@@ -4,7 +4,8 @@ use Prim.Native.Nat.{ℕ, _≤_, _-_, _+_, _*_}
 use mathlib.Core.Path.{_≡_, refl, subst}
 use mathlib.Core.List.{List}
 use lib.ListN.{length}
-use Rattle.laws.specs.Tabulate.{Filling, fill-start, fill-end, fill-at}
+use Rattle.laws.specs.Internal.{Filling}
+use Rattle.laws.proofs.Tabulate.{fill-start, fill-end, fill-at}
 use Rattle.sixtap.specs.Internal.{across}
 use Rattle.sixtap.proofs.sixtap_horiz.Statement.{statement}
 use Rattle.sixtap.proofs.sixtap_horiz.Tie as tie

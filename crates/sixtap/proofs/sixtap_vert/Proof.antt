@@ -4,7 +4,8 @@ use Prim.Native.Nat.{ℕ, _≤_, _-_, _+_, _*_, _/_, _%_}
 use mathlib.Core.List.{List}
 use mathlib.Core.Path.{_≡_, refl, _∙_, ap}
 use lib.ListN.{length}
-use Rattle.laws.specs.Tabulate.{Filling, fill-start, fill-turn, fill-end}
+use Rattle.laws.specs.Internal.{Filling}
+use Rattle.laws.proofs.Tabulate.{fill-start, fill-turn, fill-end}
 use Rattle.sixtap.specs.Internal.{sampleOf}
 use Rattle.sixtap.specs.Internal.{window, down}
 use Rattle.sixtap.proofs.sixtap_vert.Statement.{statement}

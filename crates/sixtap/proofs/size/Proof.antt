@@ -5,7 +5,7 @@ use lib.IntN.{ℤ, pos, natAbs, _-ℤ_}
 use mir.Syntax.{w32}
 use mir.Val.{SFits}
 use mir.Facts.{toZ-ofZ}
-use Rattle.laws.specs.Signed.{signs, range, self, diff}
+use Rattle.laws.proofs.Signed.{signs, range, self, diff}
 use Rattle.sixtap.proofs.size.Statement.{statement}
 use Rattle.sixtap.proofs.size.Tie as tie
 

@@ -2,7 +2,8 @@ use borrow.Author.Needs.{needs}
 use mathlib.Core.Path.{_≡_, _∙_, ap, sym}
 use native.Mathlib.Omega.{arith}
 use Prim.Native.Nat.{ℕ}
-use Rattle.laws.specs.Tabulate.{tabulate, tabulate-same}
+use Rattle.laws.specs.Tabulate.{tabulate}
+use Rattle.laws.proofs.Tabulate.{tabulate-same}
 use Rattle.sixtap.proofs.Sizes.{sample-law}
 use Rattle.sixtap.specs.Internal.{downOf}
 use Rattle.sixtap.proofs.vertical.Statement.{statement}

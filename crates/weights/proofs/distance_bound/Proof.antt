@@ -7,7 +7,7 @@ use native.Mathlib.Numerals.{add-one}
 use native.Mathlib.Omega.{arith}
 use lib.ListN.{getD}
 use borrow.Author.Needs.{needs}
-use Rattle.laws.specs.Tabulate.{getD-tabulate}
+use Rattle.laws.proofs.Tabulate.{getD-tabulate}
 use Rattle.laws.specs.Largest.{largest, nearest}
 use Rattle.weights.specs.Weights.{weightRead}
 use Rattle.weights.specs.Blend.{distanceBound}

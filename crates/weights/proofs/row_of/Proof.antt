@@ -1,6 +1,6 @@
 -- `weights::row_of` meets its contract: each of the 1536 entries is computed by the rule. Assumes nothing.
 use borrow.Author.Needs.{needs}
-use Rattle.laws.specs.Tables.{listed}
+use Rattle.laws.proofs.Tables.{listed}
 use Rattle.weights.specs.Weights.{scale, weightOf}
 use Rattle.weights.proofs.Weights.{table, rows, row-is}
 use Rattle.weights.proofs.row_of.Statement.{statement}

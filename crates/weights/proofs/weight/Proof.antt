@@ -4,7 +4,7 @@ use mathlib.Core.List.{List}
 use Prim.Native.Nat.{ℕ}
 use lib.ListN.{getD}
 use borrow.Author.Needs.{needs}
-use Rattle.laws.specs.Tabulate.{getD-tabulate}
+use Rattle.laws.proofs.Tabulate.{getD-tabulate}
 use Rattle.weights.specs.Weights.{weightRead}
 use Rattle.weights.proofs.weight.Statement.{statement}
 use Rattle.weights.proofs.weight.Tie as tie

@@ -7,15 +7,17 @@ use native.Mathlib.Omega.{arith}
 use borrow.Author.Needs.{needs}
 use borrow.Author.Tests.{lt-ltb, le-ltb, le-leb, lt-leb}
 use lib.Dec.{ltb}
-use Rattle.laws.specs.Outcome.{refused, accepted, or-none}
+use Rattle.laws.specs.Outcome.{refused, accepted}
+use Rattle.laws.proofs.Outcome.{or-none}
 use Rattle.prediction.specs.Refusals.{badSide}
 use Rattle.window.specs.declared.Frame.{Frame}
 use Rattle.window.specs.declared.Size.{Size}
 use Rattle.window.specs.Layout.{packedSize}
 use Rattle.window.specs.Frames.{frameAt}
 use Rattle.window.specs.Refusals.{Given, given, countOf, frameOf, centreOf, firstOtherSized, firstUnfit, samplesOf, sizeOf}
-use Rattle.window.specs.Steps.{sizeDiffers, firstFrame}
-use Rattle.window.proofs.Built.{legal-side}
+use Rattle.window.specs.Internal.{sizeDiffers, firstFrame}
+use Rattle.fetch.proofs.Squares as fetch
+use Rattle.window.proofs.Frames.{restated}
 use Rattle.window.proofs.Lines.{test1, test2, test3, test4, test5, test6, test7, Sized, out1, out2, out3, out4, out5, out6, out7, out8}
 use Rattle.window.proofs.check_build.Statement.{statement}
 use Rattle.window.proofs.check_build.Tie as tie
@@ -112,11 +114,12 @@ at4 : tie.After-first-other-sized → Given
 at4 c = at3 (c .before .before)
 
 other-is : (c : tie.After-first-other-sized) → c .first-other-sized .result ≡ firstOtherSized (at4 c)
-unfolding called at1 at3 at4 firstOtherSized
+unfolding called at1 at3 at4
 other-is c =
     let z = c .before .before .before .before in
     c .first-other-sized .ensures
     ∙ ap (λ (f : Frame). firstFrame (sizeDiffers f) (z .before .before .before .before .before .before .args .numbers .now)) (z .frame-at .ensures)
+    ∙ restated (at4 c) .sized
 
 frame-at-requires-2 : tie.Need-frame-at-requires-2
 frame-at-requires-2 c κs = search needs
@@ -149,8 +152,8 @@ unfolding at4
 not4 c = not-less (other-is (c .before)) (count-is (c .before .before .before)) (c .if4 .left)
 
 unfit-is : (c : tie.After-first-unfit) → c .first-unfit .result ≡ firstUnfit (at5 c)
-unfolding called at1 at3 at4 at5 firstUnfit
-unfit-is c = c .first-unfit .ensures
+unfolding called at1 at3 at4 at5
+unfit-is c = c .first-unfit .ensures ∙ restated (at5 c) .fits
 
 cast-t22 : tie.Need-cast-t22
 cast-t22 c = search needs
@@ -184,8 +187,8 @@ packed-size-requires c κs =
     let i3 = c .before .before .before .before in
     let g = at3 (i3 .before) in
     let sides = or-none (badSide (centreOf g .width)) (badSide (centreOf g .height)) (sized i3 .not3) in
-    let w = legal-side (centreOf g .width) (sides .0) in
-    let h = legal-side (centreOf g .height) (sides .1) in
+    let w = fetch.sized (centreOf g .width) (sides .0) in
+    let h = fetch.sized (centreOf g .height) (sides .1) in
     let e = size-is (i3 .before) in
     (omega (arith, w, ap (λ (s : Size). s .width) e), omega (arith, h, ap (λ (s : Size). s .height) e))
 

@@ -1,7 +1,7 @@
 -- `window::first_other_sized` meets its contract: no frame passed has another size. Assumes nothing.
 use Prim.Native.Nat.{_-_}
 use borrow.Author.Needs.{needs}
-use Rattle.window.specs.Steps.{sizeDiffers}
+use Rattle.window.specs.Internal.{sizeDiffers}
 use Rattle.window.proofs.Scan.{Scanned, tested, scan-none, scan-more, scan-found, scan-end}
 use Rattle.window.proofs.first_other_sized.Statement.{statement}
 use Rattle.window.proofs.first_other_sized.Tie as tie

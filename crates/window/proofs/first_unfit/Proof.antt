@@ -1,7 +1,7 @@
 -- `window::first_unfit` meets its contract: no frame passed has a plane that does not fit. Assumes nothing.
 use Prim.Native.Nat.{_-_}
 use borrow.Author.Needs.{needs}
-use Rattle.window.specs.Steps.{planesUnfit}
+use Rattle.window.specs.Internal.{planesUnfit}
 use Rattle.window.proofs.Scan.{Scanned, tested, scan-none, scan-more, scan-found, scan-end}
 use Rattle.window.proofs.first_unfit.Statement.{statement}
 use Rattle.window.proofs.first_unfit.Tie as tie

@@ -4,10 +4,10 @@ use mathlib.Core.Bool.{Bool}
 use Prim.Native.Nat.{ℕ, _+_, _-_, _*_}
 use lib.Dec.{ltb}
 use borrow.Author.Needs.{needs}
-use Rattle.laws.specs.Outcome.{or-first, or-second}
+use Rattle.laws.proofs.Outcome.{or-first, or-second}
 use Rattle.window.specs.declared.Frame.{Frame}
 use Rattle.window.specs.Layout.{half}
-use Rattle.window.specs.Steps.{planeShort}
+use Rattle.window.specs.Internal.{planeShort}
 use Rattle.window.proofs.frame_unfit.Statement.{statement}
 use Rattle.window.proofs.frame_unfit.Tie as tie
 

@@ -2,7 +2,7 @@
 use mathlib.Core.Path.{refl, ap}
 use mathlib.Core.Bool.{not}
 use borrow.Author.Tests.{eq-eqb, ne-eqb}
-use Rattle.laws.specs.Outcome.{or-first, or-second}
+use Rattle.laws.proofs.Outcome.{or-first, or-second}
 use Rattle.window.proofs.size_differs.Statement.{statement}
 use Rattle.window.proofs.size_differs.Tie as tie
 

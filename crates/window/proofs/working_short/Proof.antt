@@ -1,7 +1,7 @@
 -- `window::working_short` meets its contract. Assumes nothing.
 use mathlib.Core.Path.{refl}
 use borrow.Author.Tests.{lt-ltb, le-ltb}
-use Rattle.laws.specs.Outcome.{or-first, or-second}
+use Rattle.laws.proofs.Outcome.{or-first, or-second}
 use Rattle.window.proofs.working_short.Statement.{statement}
 use Rattle.window.proofs.working_short.Tie as tie
 

@@ -5,8 +5,8 @@ use Prim.Native.Nat.{ℕ, _+_, _*_, _/_, _≤_, _<_}
 use lib.Dec.{eqb}
 use Rattle.denoiser.specs.declared.Block.{Block}
 use Rattle.denoiser.specs.Grid.{gridBlock, unitOf}
-use Rattle.denoiser.specs.Search.{displacedBy, shiftIn}
-use Rattle.denoiser.specs.Window.{gate, costOf, shiftOf, sadAccepted, blockAccepted}
+use Rattle.denoiser.specs.Search.{displacedBy, displacementIn}
+use Rattle.denoiser.specs.Window.{gate, costOf, displacementOf, sadAccepted, blockAccepted}
 use Rattle.denoiser.specs.Pictures.{pictureOf}
 use Rattle.denoiser.specs.Internal.{Short, packedPicture, packedScene, shareBy, termBy}
 use Rattle.denoiser.proofs.Cover.{grid-lies, covered, uncovered}
@@ -22,8 +22,8 @@ use Rattle.arnr.proofs.accumulate.blend_at.Tie as tie
 size : (s : tie.Start) → (s .args .f .width ≤ 16383) × (s .args .f .height ≤ 16383)
 size s = let f = s .pre .0 .fits 0 (omega arith) in (f .wide .1, f .high .1)
 
-short-motion : (s : tie.Start) → Short (shiftOf (packedScene (s .args .f .width) (s .args .f .height) (s .args .out .now)) (pictureOf (s .args .bytes .now) (s .args .f)) (s .args .i) (s .args .j))
-unfolding shiftOf
+short-motion : (s : tie.Start) → Short (displacementOf (packedScene (s .args .f .width) (s .args .f .height) (s .args .out .now)) (pictureOf (s .args .bytes .now) (s .args .f)) (s .args .i) (s .args .j))
+unfolding displacementOf
 short-motion s = search-reach _
 
 accepts-is : (a : tie.After-accepts) → a .accepts .result ≡ blockAccepted (packedScene (a .before .before .before .before .before .before .before .before .before .args .f .width) (a .before .before .before .before .before .before .before .before .before .args .f .height) (a .before .before .before .before .before .before .before .before .before .args .out .now)) (pictureOf (a .before .before .before .before .before .before .before .before .before .args .bytes .now) (a .before .before .before .before .before .before .before .before .before .args .f)) (a .before .before .before .before .before .before .before .before .before .args .i) (a .before .before .before .before .before .before .before .before .before .args .j)
@@ -54,7 +54,7 @@ accepts-requires c κs =
 blend-planes-requires : tie.Need-blend-planes-requires
 blend-planes-requires c κs =
     let s = c .before .before .before .before .before .before .before .before .before .before .before .before in
-    simp (c .before .before .before .before .before .grid-block .ensures, c .before .before .before .before .motion-at .ensures .shift) (
+    simp (c .before .before .before .before .before .grid-block .ensures, c .before .before .before .before .motion-at .ensures .displacement) (
       s .pre .0,
       (
         grid-lies (s .args .f .width) (s .args .f .height) (s .args .i) (s .args .j) (s .pre .1 .0 .0) (s .pre .1 .0 .1),
@@ -82,16 +82,16 @@ returns c =
     let scene = packedScene w h out in
     let picture = pictureOf (s .args .bytes .now) f in
     let yes : blockAccepted scene picture i j ≡ true = sym (accepts-is (c .before .before .before .before .before .before .before .before)) ∙ c .before .before .before .before .before .before .before .if1 .taken in
-    let done = simp (c .before .before .before .before .before .before .before .before .before .before .grid-block .ensures, c .before .before .before .before .before .before .before .before .before .motion-at .ensures .shift) at (c .before .before .before .before .blend-planes .ensures) in (
+    let done = simp (c .before .before .before .before .before .before .before .before .before .before .grid-block .ensures, c .before .before .before .before .before .before .before .before .before .motion-at .ensures .displacement) at (c .before .before .before .before .blend-planes .ensures) in (
       sym (gate-on (blockAccepted scene picture i j) 1 yes),
       (
         spread-same w h _ (done .0)
             (λ k x y hk hx hy.
-            covered k w h i j x y (blockAccepted scene picture) (λ a e. termBy curve (packedPicture w h out k) (displacedBy (shiftIn k (shiftOf scene picture a e)) (picture k)) x y) hx hy yes
+            covered k w h i j x y (blockAccepted scene picture) (λ a e. termBy curve (packedPicture w h out k) (displacedBy (displacementIn k (displacementOf scene picture a e)) (picture k)) x y) hx hy yes
             ∙ ap (λ (t : ℕ). gate (eqb (y / unitOf k) i) (gate (eqb (x / unitOf k) j) t)) (sym (term-at curve scene picture k x y))),
         spread-same w h _ (done .1)
             (λ k x y hk hx hy.
-            covered k w h i j x y (blockAccepted scene picture) (λ a e. shareBy curve (packedPicture w h out k) (displacedBy (shiftIn k (shiftOf scene picture a e)) (picture k)) x y) hx hy yes
+            covered k w h i j x y (blockAccepted scene picture) (λ a e. shareBy curve (packedPicture w h out k) (displacedBy (displacementIn k (displacementOf scene picture a e)) (picture k)) x y) hx hy yes
             ∙ ap (λ (t : ℕ). gate (eqb (y / unitOf k) i) (gate (eqb (x / unitOf k) j) t)) (sym (share-at curve scene picture k x y))),
       ),
     )
@@ -115,11 +115,11 @@ returns-2 c =
         spread-none w h _ (s .args .sums .now)
             (λ k x y hx hy.
             ap (λ (t : ℕ). gate (eqb (y / unitOf k) i) (gate (eqb (x / unitOf k) j) t)) (term-at curve scene picture k x y)
-            ∙ uncovered k w h i j x y (blockAccepted scene picture) (λ a e. termBy curve (packedPicture w h out k) (displacedBy (shiftIn k (shiftOf scene picture a e)) (picture k)) x y) none),
+            ∙ uncovered k w h i j x y (blockAccepted scene picture) (λ a e. termBy curve (packedPicture w h out k) (displacedBy (displacementIn k (displacementOf scene picture a e)) (picture k)) x y) none),
         spread-none w h _ (s .args .weights .now)
             (λ k x y hx hy.
             ap (λ (t : ℕ). gate (eqb (y / unitOf k) i) (gate (eqb (x / unitOf k) j) t)) (share-at curve scene picture k x y)
-            ∙ uncovered k w h i j x y (blockAccepted scene picture) (λ a e. shareBy curve (packedPicture w h out k) (displacedBy (shiftIn k (shiftOf scene picture a e)) (picture k)) x y) none),
+            ∙ uncovered k w h i j x y (blockAccepted scene picture) (λ a e. shareBy curve (packedPicture w h out k) (displacedBy (displacementIn k (displacementOf scene picture a e)) (picture k)) x y) none),
       ),
     )
 

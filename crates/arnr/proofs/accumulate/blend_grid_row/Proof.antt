@@ -4,7 +4,8 @@ use Prim.Native.Nat.{ℕ, _+_, _-_, _*_, _/_, _≤_, _<_}
 use lib.Dec.{eqb, ltb}
 use lib.IntN.{ℤ}
 use lib.ListN.{getD}
-use Rattle.laws.specs.Sums.{sumBelow, sum-none, sum-more}
+use Rattle.laws.specs.Sums.{sumBelow}
+use Rattle.laws.proofs.Sums.{sum-none, sum-more}
 use Rattle.window.specs.Layout.{packedSize}
 use Rattle.denoiser.specs.Grid.{gridSide, unitOf}
 use Rattle.denoiser.specs.Window.{gate, blockAccepted, acceptedIn}

@@ -27,8 +27,8 @@ offset-of-requires c κs = let z = size (c .before .before .before .before .befo
 block-in-requires : tie.Need-block-in-requires
 block-in-requires c κs = let s = c .before .before .before .before .before .before .before .before in (s .pre .1 .0 .slim, s .pre .1 .0 .low)
 
-shift-in-requires : tie.Need-shift-in-requires
-shift-in-requires c κs = let s = c .before .before .before .before .before .before .before .before .before in s .pre .1 .1 .0
+displacement-in-requires : tie.Need-displacement-in-requires
+displacement-in-requires c κs = let s = c .before .before .before .before .before .before .before .before .before in s .pre .1 .1 .0
 
 blend-block-requires : tie.Need-blend-block-requires
 blend-block-requires c κs =
@@ -42,7 +42,7 @@ blend-block-requires c κs =
       (
         block-fits k (s .args .b) (f .width) (f .height) (s .pre .1 .0),
         (
-          c .before .before .shift-in .ensures .1,
+          c .before .before .displacement-in .ensures .1,
           (
             record { in-out = le-trans end (ends .in-out); in-sums = le-trans end (ends .in-sums); in-weights = le-trans end (ends .in-weights) },
             s .pre .1 .1 .1 .1,
@@ -59,7 +59,7 @@ same-length-2 c = search needs
 
 returns : tie.Need-returns
 unfolding packedPicture pictureOf
-returns c = simp (c .before .before .before .before .before .before .before .before .before .before .before .before .plane-of .ensures, c .before .before .before .before .before .before .before .before .before .offset-of .ensures, c .before .before .before .before .before .before .before .before .block-in .ensures, c .before .before .before .before .before .before .before .shift-in .ensures .0) at (c .before .before .before .before .blend-block .ensures)
+returns c = simp (c .before .before .before .before .before .before .before .before .before .before .before .before .plane-of .ensures, c .before .before .before .before .before .before .before .before .before .offset-of .ensures, c .before .before .before .before .before .before .before .before .block-in .ensures, c .before .before .before .before .before .before .before .displacement-in .ensures .0) at (c .before .before .before .before .blend-block .ensures)
 
 pub blend-in-spec : {M : Type 1} → statement M
 blend-in-spec =
@@ -70,7 +70,7 @@ blend-in-spec =
     cast-offset-of-2
     offset-of-requires
     block-in-requires
-    shift-in-requires
+    displacement-in-requires
     blend-block-requires
     same-length
     same-length-2

@@ -7,9 +7,9 @@ use lib.ListN.{getD}
 use Rattle.window.specs.declared.Frame.{Frame}
 use Rattle.window.specs.Layout.{sideOf, offsetOf, packedSize}
 use Rattle.denoiser.specs.declared.Block.{Block}
-use Rattle.denoiser.specs.declared.Shift.{Shift}
+use Rattle.denoiser.specs.declared.Displacement.{Displacement}
 use Rattle.denoiser.specs.Grid.{blockIn}
-use Rattle.denoiser.specs.Search.{displacedBy, shiftIn}
+use Rattle.denoiser.specs.Search.{displacedBy, displacementIn}
 use Rattle.denoiser.specs.Window.{gate}
 use Rattle.denoiser.specs.Pictures.{pictureOf}
 use Rattle.denoiser.specs.Internal.{Lent, Slack, Light, Whole, Placed, within, termBy, shareBy, packedPicture}
@@ -23,10 +23,10 @@ use Rattle.arnr.proofs.accumulate.blend_planes.Statement.{statement}
 use Rattle.arnr.proofs.accumulate.blend_planes.Tie as tie
 
 -- what one plane leaves of the room and of the lengths
-module _ (bytes : List ℕ) (f : Frame) (b : Block) (d : Shift) (curve out : List ℕ) (whole : Whole bytes f) (light : Light curve)
+module _ (bytes : List ℕ) (f : Frame) (b : Block) (d : Displacement) (curve out : List ℕ) (whole : Whole bytes f) (light : Light curve)
     (byte : (i : ℕ) → getD bytes i 0 < 256) (k : ℕ) (hk : k < 3) (old sums before weights : List ℕ)
-    (p : Placed (offsetOf k (f .width) (f .height)) (sideOf k (f .width)) (sideOf k (f .height)) (λ x y. gate (within (blockIn k b) x y) (termBy curve (packedPicture (f .width) (f .height) out k) (displacedBy (shiftIn k d) (pictureOf bytes f k)) x y)) old sums)
-    (q : Placed (offsetOf k (f .width) (f .height)) (sideOf k (f .width)) (sideOf k (f .height)) (λ x y. gate (within (blockIn k b) x y) (shareBy curve (packedPicture (f .width) (f .height) out k) (displacedBy (shiftIn k d) (pictureOf bytes f k)) x y)) before weights) where
+    (p : Placed (offsetOf k (f .width) (f .height)) (sideOf k (f .width)) (sideOf k (f .height)) (λ x y. gate (within (blockIn k b) x y) (termBy curve (packedPicture (f .width) (f .height) out k) (displacedBy (displacementIn k d) (pictureOf bytes f k)) x y)) old sums)
+    (q : Placed (offsetOf k (f .width) (f .height)) (sideOf k (f .width)) (sideOf k (f .height)) (λ x y. gate (within (blockIn k b) x y) (shareBy curve (packedPicture (f .width) (f .height) out k) (displacedBy (displacementIn k d) (pictureOf bytes f k)) x y)) before weights) where
   less : (n : ℕ) → Slack (n + 1) old before → Slack n sums weights
   less n s =
       record {

@@ -4,7 +4,7 @@ use Prim.Native.Nat.{ℕ, _+_, _*_, _^_, _≤_, _<_}
 use native.Mathlib.Nat.{add-sub-cancel-left}
 use lib.IntN.{pos}
 use lib.ListN.{length, getD, take, length-take}
-use Rattle.laws.specs.Slices.{mid-long, mid-all}
+use Rattle.laws.proofs.Slices.{mid-long, mid-all}
 use Rattle.prediction.specs.Plane.{sampleAt}
 use Rattle.denoiser.specs.Search.{displacedBy}
 use Rattle.denoiser.specs.Internal.{planeIn, packedPlane}

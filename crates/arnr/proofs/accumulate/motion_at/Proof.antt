@@ -2,7 +2,7 @@
 use mathlib.Core.Path.{_≡_}
 use Prim.Native.Nat.{ℕ, _+_, _*_, _≤_, _<_}
 use Rattle.denoiser.specs.Search.{blockSearch}
-use Rattle.denoiser.specs.Window.{costOf, shiftOf}
+use Rattle.denoiser.specs.Window.{costOf, displacementOf}
 use Rattle.denoiser.specs.Pictures.{pictureOf}
 use Rattle.denoiser.specs.Internal.{lumaCost, packedScene, packedPicture}
 use Rattle.denoiser.proofs.Cover.{grid-lies}
@@ -39,7 +39,7 @@ block-search-requires c κs =
     )
 
 returns : tie.Need-returns
-unfolding lumaCost costOf shiftOf packedScene packedPicture pictureOf
+unfolding lumaCost costOf displacementOf packedScene packedPicture pictureOf
 returns c = simp (c .before .plane-of .ensures, c .before .before .grid-block .ensures) at (c .block-search .ensures)
 
 pub motion-at-spec : {M : Type 1} → statement M

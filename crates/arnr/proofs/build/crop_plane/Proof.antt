@@ -4,11 +4,12 @@ use Prim.Native.Nat.{ℕ, _+_, _-_, _*_, _≤_, _<_}
 use native.Mathlib.Nat.{add-sub-cancel-left}
 use lib.IntN.{pos}
 use lib.ListN.{length, getD}
-use Rattle.laws.specs.Slices.{mid-at, mid-long}
+use Rattle.laws.proofs.Slices.{mid-at, mid-long}
 use Rattle.prediction.specs.Plane.{sampleAt}
 use Rattle.denoiser.specs.Internal.{Stored, planeIn}
 use Rattle.denoiser.proofs.Fronts.{stored-none, stored-more}
-use Rattle.denoiser.proofs.Planes.{sample-below, plane-at, row-below}
+use Rattle.prediction.proofs.Edges.{inside}
+use Rattle.denoiser.proofs.Planes.{sample-below, row-below}
 use native.Mathlib.Omega.{arith}
 use borrow.Author.Needs.{needs}
 use Rattle.arnr.proofs.build.crop_plane.Statement.{statement}
@@ -99,7 +100,7 @@ loop-again c =
     let from = p .start + l .r * p .stride in
     let done = simp add-sub-cancel-left at (c .before .before .copy-row .ensures) in
     let row : (x : ℕ) → x < p .columns → getD (c .before .before .copy-row .last .1 .0) x 0 ≡ sampleAt (planeIn bytes p) (pos x) (pos (l .r))
-    = λ x h. rw done (mid-at from (p .columns) bytes x h) ∙ sym (plane-at (planeIn bytes p) x (l .r) h less) in
+    = λ x h. rw done (mid-at from (p .columns) bytes x h) ∙ sym (inside (planeIn bytes p) x (l .r) h less) in
     simp add-sub-cancel-left (
       omega (arith, less),
       stored-more (s .args .at) (p .columns) (p .rows) (λ x y. sampleAt (planeIn bytes p) (pos x) (pos y)) (s .args .out .now) (l .out) (c .before .before .copy-row .last .1 .0) (s .pre .1) (l .r) less (l .inv .1) (rw done (mid-long from (p .columns) bytes (in-bytes i))) row,

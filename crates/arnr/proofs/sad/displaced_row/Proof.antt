@@ -6,7 +6,7 @@ use lib.IntN.{ℤ, pos, _+ℤ_}
 use lib.ListN.{length, getD}
 use mir.Facts.{toZ-ofZ}
 use borrow.Author.Needs.{needs}
-use Rattle.laws.specs.Signed.{sum}
+use Rattle.laws.proofs.Signed.{sum}
 use Rattle.prediction.specs.Plane.{nearestIn}
 use Rattle.denoiser.specs.Internal.{Runs}
 use Rattle.denoiser.proofs.Planes.{sample-below, displaced-at, short-fits}

@@ -8,7 +8,8 @@ use mir.Val.{SFits, toZ, ofZ}
 use mir.ValLaws.{toZ-pos}
 use mir.Facts.{toZ-ofZ}
 use borrow.Author.Needs.{needs}
-use Rattle.laws.specs.Signed.{above, below, signs, range, sum, self}
+use Rattle.laws.specs.Signed.{above, below}
+use Rattle.laws.proofs.Signed.{signs, range, sum, self}
 use Rattle.arnr.proofs.sad.edge.Statement.{statement}
 use Rattle.arnr.proofs.sad.edge.Tie as tie
 

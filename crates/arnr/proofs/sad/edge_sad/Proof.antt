@@ -6,7 +6,8 @@ use Rattle.prediction.specs.Samples.{distance}
 use Rattle.prediction.specs.Plane.{sampleAt}
 use Rattle.denoiser.specs.Search.{sadOf, displacedBy}
 use Rattle.denoiser.specs.Internal.{planeIn, packedPlane, lumaCost}
-use Rattle.laws.specs.Sums.{sumBelow, sum-none, sum-more}
+use Rattle.laws.specs.Sums.{sumBelow}
+use Rattle.laws.proofs.Sums.{sum-none, sum-more}
 use Rattle.denoiser.proofs.Ceilings.{sum-part, whole, cut-off}
 use native.Mathlib.Omega.{arith}
 use borrow.Author.Needs.{needs}

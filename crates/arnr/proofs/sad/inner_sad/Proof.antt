@@ -9,8 +9,9 @@ use lib.ListN.{length, getD}
 use borrow.Rule.Slice.PartMut.{midOf}
 use Rattle.prediction.specs.Samples.{distance}
 use Rattle.denoiser.specs.Internal.{rowDistance, rowsDistance}
-use Rattle.laws.specs.Sums.{sumBelow, sum-none, sum-more, sum-same, sum-plus}
-use Rattle.laws.specs.Slices.{mid-at, mid-long}
+use Rattle.laws.specs.Sums.{sumBelow}
+use Rattle.laws.proofs.Sums.{sum-none, sum-more, sum-same, sum-plus}
+use Rattle.laws.proofs.Slices.{mid-at, mid-long}
 use Rattle.denoiser.proofs.Ceilings.{sum-part, whole, cut-off}
 use Rattle.arnr.proofs.sad.inner_sad.Statement.{statement}
 use Rattle.arnr.proofs.sad.inner_sad.Tie as tie

@@ -5,7 +5,8 @@ use mathlib.Core.List.{List}
 use Prim.Native.Nat.{ℕ, _+_, _*_, _<_}
 use lib.ListN.{getD}
 use Rattle.prediction.specs.Samples.{distance}
-use Rattle.laws.specs.Sums.{sumBelow, sum-same}
+use Rattle.laws.specs.Sums.{sumBelow}
+use Rattle.laws.proofs.Sums.{sum-same}
 use Rattle.denoiser.proofs.Ceilings.{same-cost}
 use borrow.Author.Needs.{needs}
 use Rattle.arnr.proofs.sad.placed_sad.Statement.{statement}

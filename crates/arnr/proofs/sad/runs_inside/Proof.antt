@@ -10,7 +10,8 @@ use mir.ValLaws.{toZ-pos}
 use mir.Facts.{toZ-ofZ}
 use borrow.Author.Needs.{needs}
 use borrow.Author.Tests.{leb-true}
-use Rattle.laws.specs.Signed.{above, below, signs, range, sum, self}
+use Rattle.laws.specs.Signed.{above, below}
+use Rattle.laws.proofs.Signed.{signs, range, sum, self}
 use Rattle.arnr.proofs.sad.runs_inside.Statement.{statement}
 use Rattle.arnr.proofs.sad.runs_inside.Tie as tie
 

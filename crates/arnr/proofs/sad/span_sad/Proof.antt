@@ -7,9 +7,9 @@ use Rattle.prediction.specs.Plane.{sampleAt}
 use Rattle.denoiser.specs.Search.{displacedBy}
 use Rattle.denoiser.specs.Internal.{planeIn, packedPlane}
 use Rattle.denoiser.proofs.Planes.{row-below, luma-at}
-use Rattle.laws.specs.Slices.{mid-long}
+use Rattle.laws.proofs.Slices.{mid-long}
 use Rattle.denoiser.proofs.Place.{apart-is}
-use Rattle.laws.specs.Sums.{sum-same}
+use Rattle.laws.proofs.Sums.{sum-same}
 use native.Mathlib.Omega.{arith}
 use borrow.Author.Needs.{needs}
 use Rattle.arnr.proofs.sad.span_sad.Statement.{statement}

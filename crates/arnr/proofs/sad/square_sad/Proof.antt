@@ -2,7 +2,8 @@ use native.Mathlib.Omega.{arith}
 use mathlib.Core.Path.{_≡_, ap, _∙_, sym}
 use mathlib.Core.List.{List}
 use Prim.Native.Nat.{ℕ, _+_, _-_, _*_, _<_, _≤_, min}
-use Rattle.laws.specs.Signed.{above, below, sum}
+use Rattle.laws.specs.Signed.{above, below}
+use Rattle.laws.proofs.Signed.{sum}
 use lib.IntN.{ℤ, pos, _+ℤ_}
 use lib.ListN.{getD}
 use mir.Facts.{toZ-ofZ}
@@ -10,11 +11,12 @@ use Rattle.prediction.specs.Samples.{distance}
 use Rattle.prediction.specs.Plane.{sampleAt, nearestIn}
 use Rattle.denoiser.specs.declared.PlaneNumbers.{PlaneNumbers}
 use Rattle.denoiser.specs.declared.Block.{Block}
-use Rattle.denoiser.specs.declared.Shift.{Shift}
+use Rattle.denoiser.specs.declared.Displacement.{Displacement}
 use Rattle.denoiser.specs.Search.{sadOf}
 use Rattle.denoiser.specs.Internal.{Lies, packedPlane, lumaCost}
 use Rattle.denoiser.proofs.Planes.{sample-below, row-below, luma-at, displaced-at, short-fits}
-use Rattle.laws.specs.Sums.{sumBelow, sum-same}
+use Rattle.laws.specs.Sums.{sumBelow}
+use Rattle.laws.proofs.Sums.{sum-same}
 use Rattle.denoiser.proofs.Ceilings.{same-cost}
 use borrow.Author.Needs.{needs}
 use Rattle.arnr.proofs.sad.square_sad.Statement.{statement}
@@ -42,7 +44,7 @@ row n x d a e f k h =
     three (n - 1) x (above d) (below d) a k (e ∙ u) (one (n - 1) x (above d) (below d) a (e ∙ u) (f ∙ v)) (two (n - 1) x (above d) (below d) a (e ∙ u) (f ∙ v)) h
     ∙ sym (edge n (x + k) d)
 
-square : (bytes centre : List ℕ) (p : PlaneNumbers) (b : Block) (d : Shift) (left top : ℕ)
+square : (bytes centre : List ℕ) (p : PlaneNumbers) (b : Block) (d : Displacement) (left top : ℕ)
     → left ≡ nearestIn (p .columns) (pos (b .x) +ℤ d .dx) → left + 15 ≡ nearestIn (p .columns) (pos (b .x + 15) +ℤ d .dx)
     → top ≡ nearestIn (p .rows) (pos (b .y) +ℤ d .dy) → top + 15 ≡ nearestIn (p .rows) (pos (b .y + 15) +ℤ d .dy)
     → b .columns ≡ 16 → b .rows ≡ 16 → Lies b (p .columns) (p .rows)

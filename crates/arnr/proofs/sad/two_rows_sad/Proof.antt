@@ -3,7 +3,8 @@ use mathlib.Core.Path.{_≡_}
 use Prim.Native.Nat.{ℕ, _+_, _*_, _-_, _≤_}
 use native.Mathlib.Omega.{arith}
 use borrow.Author.Needs.{needs}
-use Rattle.laws.specs.Sums.{sumBelow, sum-none, sum-more}
+use Rattle.laws.specs.Sums.{sumBelow}
+use Rattle.laws.proofs.Sums.{sum-none, sum-more}
 use Rattle.denoiser.specs.Internal.{rowDistance, rowsDistance}
 use Rattle.arnr.proofs.sad.two_rows_sad.Statement.{statement}
 use Rattle.arnr.proofs.sad.two_rows_sad.Tie as tie

@@ -2,29 +2,29 @@
 use mathlib.Core.Path.{_≡_, ap, _∙_, refl, sym}
 use Prim.Native.Nat.{ℕ}
 use lib.IntN.{pos}
-use Rattle.denoiser.specs.declared.Shift.{Shift}
+use Rattle.denoiser.specs.declared.Displacement.{Displacement}
 use Rattle.denoiser.specs.declared.Motion.{Motion}
-use Rattle.denoiser.specs.Search.{still, stepBest, blockSearch}
-use Rattle.denoiser.specs.Internal.{Reach, Measured, lumaCost}
-use Rattle.denoiser.proofs.Searches.{step-best-reach, wider}
+use Rattle.denoiser.specs.Search.{still, blockSearch}
+use Rattle.denoiser.specs.Internal.{stepBest, Reach, Measured, lumaCost}
+use Rattle.denoiser.proofs.Searches.{step-best-reach, search-steps, wider}
 use native.Mathlib.Omega.{arith}
 use borrow.Author.Needs.{needs}
 use Rattle.arnr.proofs.search.block_search.Statement.{statement}
 use Rattle.arnr.proofs.search.block_search.Tie as tie
 
 -- the SAD that a step is handed is that of its displacement
-own : (cost : Shift → ℕ) (d : Shift) (m : Motion) → Measured cost d m → m .sad ≡ cost (m .shift)
-own cost d m i = i .sad ∙ sym (ap cost (i .shift))
+own : (cost : Displacement → ℕ) (d : Displacement) (m : Motion) → Measured cost d m → m .sad ≡ cost (m .displacement)
+own cost d m i = i .sad ∙ sym (ap cost (i .displacement))
 
 -- how far each step has come
-first : (c : tie.After-round) → Reach 8 (c .round .result .shift)
-first c = rw (c .round .ensures .shift) (step-best-reach _ 8 0 _ (omega arith))
+first : (c : tie.After-round) → Reach 8 (c .round .result .displacement)
+first c = rw (c .round .ensures .displacement) (step-best-reach _ 8 0 _ (omega arith))
 
-second : (c : tie.After-round2) → Reach 12 (c .round2 .result .shift)
-second c = rw (c .round2 .ensures .shift) (step-best-reach _ 4 8 _ (first (c .before)))
+second : (c : tie.After-round2) → Reach 12 (c .round2 .result .displacement)
+second c = rw (c .round2 .ensures .displacement) (step-best-reach _ 4 8 _ (first (c .before)))
 
-third : (c : tie.After-round3) → Reach 14 (c .round3 .result .shift)
-third c = rw (c .round3 .ensures .shift) (step-best-reach _ 2 12 _ (second (c .before)))
+third : (c : tie.After-round3) → Reach 14 (c .round3 .result .displacement)
+third c = rw (c .round3 .ensures .displacement) (step-best-reach _ 2 12 _ (second (c .before)))
 
 block-sad-requires : tie.Need-block-sad-requires
 block-sad-requires c κs = search needs
@@ -51,13 +51,12 @@ round-requires-4 c κs =
     (s .pre .0, (s .pre .1 .0, ((omega arith, third c), (s .pre .1 .1, own _ _ _ (c .round3 .ensures)))))
 
 -- four steps, one after the other
-four : (cost : Shift → ℕ) (a b c m : Motion) → Measured cost (stepBest cost 8 still) a → Measured cost (stepBest cost 4 (a .shift)) b
-    → Measured cost (stepBest cost 2 (b .shift)) c → Measured cost (stepBest cost 1 (c .shift)) m → Measured cost (blockSearch cost) m
-unfolding blockSearch
+four : (cost : Displacement → ℕ) (a b c m : Motion) → Measured cost (stepBest cost 8 still) a → Measured cost (stepBest cost 4 (a .displacement)) b
+    → Measured cost (stepBest cost 2 (b .displacement)) c → Measured cost (stepBest cost 1 (c .displacement)) m → Measured cost (blockSearch cost) m
 four cost a b c m p q r t =
-    let e : stepBest cost 1 (c .shift) ≡ blockSearch cost
-    = ap (stepBest cost 1) (r .shift ∙ ap (stepBest cost 2) (q .shift ∙ ap (stepBest cost 4) (p .shift))) in
-    record { shift = t .shift ∙ e; sad = t .sad ∙ ap cost e }
+    let e : stepBest cost 1 (c .displacement) ≡ blockSearch cost
+    = ap (stepBest cost 1) (r .displacement ∙ ap (stepBest cost 2) (q .displacement ∙ ap (stepBest cost 4) (p .displacement))) ∙ sym (search-steps cost) in
+    record { displacement = t .displacement ∙ e; sad = t .sad ∙ ap cost e }
 
 returns : tie.Need-returns
 returns c = four _ _ _ _ _ (c .before .before .before .round .ensures) (c .before .before .round2 .ensures) (c .before .round3 .ensures) (c .round4 .ensures)

@@ -5,8 +5,9 @@ use lib.Dec.{ltb}
 use lib.IntN.{ℤ}
 use mir.Facts.{toZ-ofZ}
 use borrow.Author.Tests.{lt-ltb, le-ltb}
-use Rattle.denoiser.specs.Search.{squarePlace, stepTo, neighbourOf}
-use Rattle.denoiser.proofs.Planes.{short-fits, same-shift}
+use Rattle.denoiser.specs.Search.{neighbourOf}
+use Rattle.laws.specs.Square.{squarePlace, stepTo}
+use Rattle.denoiser.proofs.Planes.{short-fits, same-displacement}
 use native.Mathlib.Omega.{arith}
 use borrow.Author.Needs.{needs, sfits-of}
 use mir.Syntax.{w32}
@@ -37,7 +38,7 @@ returns c =
     let d = s .args .d in
     let step = s .args .step in
     let k-place = place-is (c .before .before .before .before .before) in
-    same-shift
+    same-displacement
     (toZ-ofZ {w = w32} (sfits-of (c .before .before .step-to .ok)) ∙ c .before .before .step-to .ensures
     ∙ ap (λ (v : ℤ). stepTo v (c .before .before .before .before .before .if1 .place % 3) step) (toZ-ofZ (short-fits d (s .pre .2) .0))
     ∙ ap (λ (t : ℕ). stepTo (d .dx) (t % 3) step) k-place)

@@ -1,11 +1,12 @@
 -- `arnr::search::round` meets its contract. The loop's invariant: the best so far is that of the start and the first k neighbours, with its cost. Assumes nothing.
 use mathlib.Core.Path.{_≡_, ap, _∙_, refl, sym}
 use Prim.Native.Nat.{ℕ, _+_, _-_, _≤_, _<_}
-use Rattle.laws.specs.Best.{betterOf, bestOf, best-none, best-more}
-use Rattle.denoiser.specs.declared.Shift.{Shift}
+use Rattle.laws.specs.Best.{betterOf, bestOf}
+use Rattle.laws.proofs.Best.{best-none, best-more}
+use Rattle.denoiser.specs.declared.Displacement.{Displacement}
 use Rattle.denoiser.specs.declared.Motion.{Motion}
-use Rattle.denoiser.specs.Search.{neighbourOf, stepBest}
-use Rattle.denoiser.specs.Internal.{Reach, Short, Measured, lumaCost}
+use Rattle.denoiser.specs.Search.{neighbourOf}
+use Rattle.denoiser.specs.Internal.{stepBest, Reach, Short, Measured, lumaCost}
 use Rattle.denoiser.proofs.Searches.{neighbour-reach, wider}
 use native.Mathlib.Omega.{arith}
 use borrow.Author.Needs.{needs}
@@ -19,15 +20,15 @@ Inv-loop bytes p b centre step from found₀ k₀ found k =
 abbrev μ-loop : tie.MeasureT-loop
 μ-loop bytes p b centre step from found₀ k₀ found k = 8 - k
 
-module _ (cost : Shift → ℕ) (from : Shift) (step : ℕ) where
-  none : (m : Motion) → m .shift ≡ from → m .sad ≡ cost from → Measured cost (bestOf cost from (neighbourOf from step) 0) m
-  none m e f = let b = best-none cost from (neighbourOf from step) in record { shift = e ∙ b; sad = f ∙ ap cost b }
+module _ (cost : Displacement → ℕ) (from : Displacement) (step : ℕ) where
+  none : (m : Motion) → m .displacement ≡ from → m .sad ≡ cost from → Measured cost (bestOf cost from (neighbourOf from step) 0) m
+  none m e f = let b = best-none cost from (neighbourOf from step) in record { displacement = e ∙ b; sad = f ∙ ap cost b }
 
-  more : (k : ℕ) (m r : Motion) (d : Shift) → Measured cost (bestOf cost from (neighbourOf from step) k) m → d ≡ neighbourOf from step k
-      → Measured cost (betterOf cost (m .shift) d) r → Measured cost (bestOf cost from (neighbourOf from step) (k + 1)) r
+  more : (k : ℕ) (m r : Motion) (d : Displacement) → Measured cost (bestOf cost from (neighbourOf from step) k) m → d ≡ neighbourOf from step k
+      → Measured cost (betterOf cost (m .displacement) d) r → Measured cost (bestOf cost from (neighbourOf from step) (k + 1)) r
   more k m r d i e q =
-      let v = best-more cost from (neighbourOf from step) k (m .shift) (betterOf cost (m .shift) d) (i .shift) (ap (betterOf cost (m .shift)) e) in
-      record { shift = q .shift ∙ v; sad = q .sad ∙ ap cost v }
+      let v = best-more cost from (neighbourOf from step) k (m .displacement) (betterOf cost (m .displacement) d) (i .displacement) (ap (betterOf cost (m .displacement)) e) in
+      record { displacement = q .displacement ∙ v; sad = q .sad ∙ ap cost v }
 
 loop-holds : tie.Need-loop-holds Inv-loop μ-loop
 loop-holds c = (search needs, none _ _ _ _ refl (c .before .before .before .pre .1 .1 .1 .1))
@@ -42,14 +43,14 @@ try-at-requires c κs =
     let s = c .before .before .before .before .before .before in
     let l = c .before .before .loop in
     let step = s .args .step in
-    let near : Reach (15 - step + step) (neighbourOf (s .args .best .shift) step (l .k))
+    let near : Reach (15 - step + step) (neighbourOf (s .args .best .displacement) step (l .k))
     = neighbour-reach _ (15 - step) step _ (c .before .loop-test .taken) (s .pre .1 .1 .0 .1) in (
       s .pre .0,
       (
         s .pre .1 .0,
         (
           rw (c .next-to .ensures) (wider (15 - step + step) 15 _ (omega arith) near),
-          (s .pre .1 .1 .1 .0, l .inv .1 .sad ∙ sym (ap (lumaCost (s .args .centre .now) (s .args .bytes .now) (s .args .p) (s .args .b)) (l .inv .1 .shift))),
+          (s .pre .1 .1 .1 .0, l .inv .1 .sad ∙ sym (ap (lumaCost (s .args .centre .now) (s .args .bytes .now) (s .args .p) (s .args .b)) (l .inv .1 .displacement))),
         ),
       ),
     )

@@ -6,8 +6,9 @@ use mir.Syntax.{w32}
 use mir.Val.{SFits, toZ, ofZ}
 use mir.ValLaws.{toZ-pos}
 use mir.Facts.{toZ-ofZ}
-use Rattle.laws.specs.Signed.{above, below, range, sum, diff}
-use Rattle.denoiser.specs.Search.{stepTo}
+use Rattle.laws.specs.Signed.{above, below}
+use Rattle.laws.proofs.Signed.{range, sum, diff}
+use Rattle.laws.specs.Square.{stepTo}
 use native.Mathlib.Omega.{arith}
 use borrow.Author.Needs.{needs}
 use Rattle.arnr.proofs.search.step_to.Statement.{statement}

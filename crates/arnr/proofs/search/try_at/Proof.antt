@@ -1,8 +1,9 @@
 -- `arnr::search::try_at` meets its contract. Assumes nothing.
 use mathlib.Core.Path.{_≡_, ap, _∙_, refl, sym}
 use Prim.Native.Nat.{ℕ, _<_, _≤_}
-use Rattle.laws.specs.Best.{betterOf, better-less, better-not}
-use Rattle.denoiser.specs.declared.Shift.{Shift}
+use Rattle.laws.specs.Best.{betterOf}
+use Rattle.laws.proofs.Best.{better-less, better-not}
+use Rattle.denoiser.specs.declared.Displacement.{Displacement}
 use Rattle.denoiser.specs.declared.Motion.{Motion}
 use Rattle.denoiser.specs.Internal.{Measured, lumaCost, Capped}
 use native.Mathlib.Omega.{arith}
@@ -10,16 +11,16 @@ use borrow.Author.Needs.{needs}
 use Rattle.arnr.proofs.search.try_at.Statement.{statement}
 use Rattle.arnr.proofs.search.try_at.Tie as tie
 
-module _ (cost : Shift → ℕ) (best : Motion) (d : Shift) (sad : ℕ) (is : Capped (best .sad) (cost d) sad) (known : best .sad ≡ cost (best .shift)) where
-  better : sad < best .sad → Measured cost (betterOf cost (best .shift) d) (record { shift = d; sad = sad })
+module _ (cost : Displacement → ℕ) (best : Motion) (d : Displacement) (sad : ℕ) (is : Capped (best .sad) (cost d) sad) (known : best .sad ≡ cost (best .displacement)) where
+  better : sad < best .sad → Measured cost (betterOf cost (best .displacement) d) (record { displacement = d; sad = sad })
   better h =
-      let e = better-less cost (best .shift) d (omega (arith, is .exact h)) in
-      record { shift = e; sad = is .exact h ∙ ap cost e }
+      let e = better-less cost (best .displacement) d (omega (arith, is .exact h)) in
+      record { displacement = e; sad = is .exact h ∙ ap cost e }
 
-  worse : best .sad ≤ sad → Measured cost (betterOf cost (best .shift) d) best
+  worse : best .sad ≤ sad → Measured cost (betterOf cost (best .displacement) d) best
   worse h =
-      let e = better-not cost (best .shift) d (omega (arith, is .most)) in
-      record { shift = e; sad = known ∙ ap cost e }
+      let e = better-not cost (best .displacement) d (omega (arith, is .most)) in
+      record { displacement = e; sad = known ∙ ap cost e }
 
 block-sad-requires : tie.Need-block-sad-requires
 block-sad-requires c κs = let s = c .before .before in (s .pre .0, (s .pre .1 .0, (s .pre .1 .1 .0, s .pre .1 .1 .1 .0)))

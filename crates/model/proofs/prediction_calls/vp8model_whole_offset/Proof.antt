@@ -2,7 +2,7 @@
 use mathlib.Core.Path.{_∙_}
 use mir.Syntax.{w32}
 use mir.Facts.{toZ-ofZ}
-use Rattle.laws.specs.Signed.{back}
+use Rattle.laws.proofs.Signed.{back}
 use borrow.Author.Needs.{needs}
 use Rattle.model.proofs.prediction_calls.vp8model_whole_offset.Statement.{statement}
 use Rattle.model.proofs.prediction_calls.vp8model_whole_offset.Tie as tie

@@ -4,7 +4,7 @@ use native.Mathlib.Omega.{arith}
 use borrow.Author.Needs.{needs}
 use lib.IntN.{pos, negℤ}
 use Rattle.search.specs.Search.{down, left, right, counted, roundOf}
-use Rattle.search.specs.Conditions.{costAt}
+use Rattle.search.specs.Internal.{costAt}
 use Rattle.search.proofs.Descent.{Tried, tried-is}
 use Rattle.motion_search.proofs.diamond.round.Statement.{statement}
 use Rattle.motion_search.proofs.diamond.round.Tie as tie

@@ -4,7 +4,7 @@ use Prim.Native.Nat.{_+_, _-_}
 use native.Mathlib.Omega.{arith}
 use borrow.Author.Needs.{needs}
 use Rattle.search.specs.Search.{gridded, descend, startAt, diamond}
-use Rattle.search.specs.Conditions.{planeOf, costAt}
+use Rattle.search.specs.Internal.{planeOf, costAt}
 use Rattle.search.proofs.Grid.{whole, whole-copied}
 use Rattle.search.proofs.SadLaws.{cost-most}
 use Rattle.search.proofs.Descent.{round-is}

@@ -4,7 +4,7 @@ use Prim.Native.Nat.{ℕ}
 use borrow.Author.Needs.{needs}
 use Rattle.laws.specs.Outcome.{accepted}
 use Rattle.search.specs.declared.Site.{Site}
-use Rattle.search.specs.Conditions.{costAt}
+use Rattle.search.specs.Internal.{costAt}
 use Rattle.search.proofs.Checks.{still-refused, linesOf, ready, whole-here, counts}
 use Rattle.motion_search.proofs.motion_search.mb_luma_sad_at_whole_mv.Statement.{statement}
 use Rattle.motion_search.proofs.motion_search.mb_luma_sad_at_whole_mv.Tie as tie

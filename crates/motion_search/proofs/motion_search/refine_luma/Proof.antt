@@ -3,11 +3,12 @@ use mathlib.Core.Path.{sym, ap, _∙_}
 use mathlib.Core.List.{List, []}
 use Prim.Native.Nat.{ℕ, _*_}
 use borrow.Author.Needs.{needs}
-use Rattle.laws.specs.Outcome.{accepted, Line, skipped, answered}
+use Rattle.laws.specs.Outcome.{accepted, Line}
+use Rattle.laws.proofs.Outcome.{skipped, answered}
 use Rattle.prediction.specs.declared.motion_vector.Mv.{Mv}
 use Rattle.search.specs.declared.Site.{Site}
 use Rattle.search.specs.Refusals.{sadOutcome, gridLines}
-use Rattle.search.specs.Conditions.{planeOf, costAt}
+use Rattle.search.specs.Internal.{planeOf, costAt}
 use Rattle.search.proofs.Accepted.{also-refused, also-accepted}
 use Rattle.search.proofs.Refine.{step-room}
 use Rattle.motion_search.proofs.motion_search.refine_luma.Statement.{statement}

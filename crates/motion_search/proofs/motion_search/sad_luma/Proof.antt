@@ -2,7 +2,7 @@
 use mathlib.Core.Path.{ap, _∙_}
 use borrow.Author.Needs.{needs}
 use Rattle.laws.specs.Outcome.{accepted}
-use Rattle.search.specs.Conditions.{costAt}
+use Rattle.search.specs.Internal.{costAt}
 use Rattle.search.proofs.Checks.{still-refused, linesOf, ready, counts}
 use Rattle.motion_search.proofs.motion_search.sad_luma.Statement.{statement}
 use Rattle.motion_search.proofs.motion_search.sad_luma.Tie as tie

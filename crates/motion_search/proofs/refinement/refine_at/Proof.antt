@@ -3,11 +3,12 @@ use mathlib.Core.Path.{_≡_}
 use Prim.Native.Nat.{ℕ, _-_, _≤_}
 use native.Mathlib.Omega.{arith}
 use borrow.Author.Needs.{needs}
-use Rattle.laws.specs.Best.{bestOf, best-none, best-more}
+use Rattle.laws.specs.Best.{bestOf}
+use Rattle.laws.proofs.Best.{best-none, best-more}
 use Rattle.prediction.specs.declared.motion_vector.Mv.{Mv}
 use Rattle.search.specs.declared.SearchResult.{SearchResult}
 use Rattle.search.specs.Search.{rasterOf, measuredAt, refine}
-use Rattle.search.specs.Conditions.{costAt}
+use Rattle.search.specs.Internal.{costAt}
 use Rattle.motion_search.proofs.refinement.refine_at.Statement.{statement}
 use Rattle.motion_search.proofs.refinement.refine_at.Tie as tie
 

@@ -1,7 +1,7 @@
 -- `try_mv` meets its contract. Assumes nothing.
 use native.Mathlib.Omega.{arith}
 use borrow.Author.Needs.{needs}
-use Rattle.laws.specs.Best.{better-less, better-not}
+use Rattle.laws.proofs.Best.{better-less, better-not}
 use Rattle.motion_search.proofs.refinement.try_mv.Statement.{statement}
 use Rattle.motion_search.proofs.refinement.try_mv.Tie as tie
 

@@ -1,7 +1,7 @@
 -- `bad_macroblock` meets its contract. Assumes nothing.
 use mathlib.Core.Path.{refl}
 use borrow.Author.Tests.{lt-ltb, le-ltb}
-use Rattle.laws.specs.Outcome.{or-first, or-second}
+use Rattle.laws.proofs.Outcome.{or-first, or-second}
 use Rattle.motion_search.proofs.refusals.bad_macroblock.Statement.{statement}
 use Rattle.motion_search.proofs.refusals.bad_macroblock.Tie as tie
 

@@ -1,5 +1,5 @@
 -- `is_outside` meets its contract. Assumes nothing.
-use Rattle.laws.specs.Outcome.{or-first, or-second}
+use Rattle.laws.proofs.Outcome.{or-first, or-second}
 use mir.Facts.{toZ-ofZ}
 use Rattle.motion_search.proofs.refusals.is_outside.Statement.{statement}
 use Rattle.motion_search.proofs.refusals.is_outside.Tie as tie

@@ -4,7 +4,7 @@ use mir.Facts.{toZ-ofZ}
 use lib.IntN.{ℤ, pos, _-ℤ_}
 use mir.Syntax.{w16, w32}
 use mir.Val.{SFits}
-use Rattle.laws.specs.Signed.{range, diff, self, lt-true, lt-false, signs}
+use Rattle.laws.proofs.Signed.{range, diff, self, lt-true, lt-false, signs}
 use borrow.Author.Needs.{needs}
 use Rattle.motion_search.proofs.refusals.magnitude.Statement.{statement}
 use Rattle.motion_search.proofs.refusals.magnitude.Tie as tie

@@ -1,6 +1,6 @@
 -- `out_of_range` meets its contract. Assumes nothing.
 use mathlib.Core.Path.{sym, ap, _∙_}
-use Rattle.laws.specs.Outcome.{or-first, or-second}
+use Rattle.laws.proofs.Outcome.{or-first, or-second}
 use mir.Facts.{toZ-ofZ}
 use mir.Syntax.{w16}
 use mir.Val.{SFits}

@@ -7,7 +7,7 @@ use mir.Facts.{toZ-ofZ}
 use Rattle.prediction.specs.declared.motion_vector.Mv.{Mv}
 use Rattle.prediction.specs.Vector.{fractionOf}
 use Rattle.search.specs.Sad.{sad16, costOf}
-use Rattle.search.specs.Conditions.{predictedFrom}
+use Rattle.search.specs.Internal.{predictedFrom}
 use Rattle.motion_search.proofs.sads.any_sad.Statement.{statement}
 use Rattle.motion_search.proofs.sads.any_sad.Tie as tie
 

@@ -9,7 +9,8 @@ use lib.Signed.{nonNeg}
 use mir.Syntax.{w16, w32, w64}
 use mir.Val.{SFits, Fits}
 use mir.Facts.{toZ-ofZ}
-use Rattle.laws.specs.Signed.{above, below, signs, range, sum, floor}
+use Rattle.laws.specs.Signed.{above, below}
+use Rattle.laws.proofs.Signed.{signs, range, sum, floor}
 use Rattle.prediction.specs.Vector.{wholeOf}
 use Rattle.motion_search.proofs.sads.displaced.Statement.{statement}
 use Rattle.motion_search.proofs.sads.displaced.Tie as tie

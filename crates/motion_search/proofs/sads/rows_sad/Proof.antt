@@ -5,8 +5,9 @@ use native.Mathlib.Nat.{add-sub-cancel-left, add-mul}
 use native.Mathlib.Omega.{arith}
 use borrow.Author.Needs.{needs}
 use lib.ListN.{length}
-use Rattle.laws.specs.Sums.{sumBelow, sum-none}
-use Rattle.laws.specs.Slices.{mid-long}
+use Rattle.laws.specs.Sums.{sumBelow}
+use Rattle.laws.proofs.Sums.{sum-none}
+use Rattle.laws.proofs.Slices.{mid-long}
 use Rattle.search.proofs.Rows.{row-ends, apart, rows-more}
 use Rattle.motion_search.proofs.sads.rows_sad.Statement.{statement}
 use Rattle.motion_search.proofs.sads.rows_sad.Tie as tie

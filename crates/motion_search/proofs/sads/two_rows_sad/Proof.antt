@@ -3,8 +3,9 @@ use mathlib.Core.Path.{_≡_}
 use Prim.Native.Nat.{ℕ, _+_, _*_, _-_, _≤_}
 use native.Mathlib.Omega.{arith}
 use borrow.Author.Needs.{needs}
-use Rattle.laws.specs.Sums.{sumBelow, sum-none, sum-more}
-use Rattle.search.specs.Conditions.{twoApart}
+use Rattle.laws.specs.Sums.{sumBelow}
+use Rattle.laws.proofs.Sums.{sum-none, sum-more}
+use Rattle.search.specs.Internal.{twoApart}
 use Rattle.motion_search.proofs.sads.two_rows_sad.Statement.{statement}
 use Rattle.motion_search.proofs.sads.two_rows_sad.Tie as tie
 

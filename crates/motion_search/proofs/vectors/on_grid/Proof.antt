@@ -3,7 +3,7 @@ use mathlib.Core.Path.{_∙_, ap}
 use borrow.Author.Needs.{needs}
 use mir.Syntax.{w16}
 use mir.Facts.{toZ-ofZ}
-use Rattle.laws.specs.Signed.{back}
+use Rattle.laws.proofs.Signed.{back}
 use Rattle.search.specs.Search.{clampedMv, cutTo4}
 use Rattle.motion_search.proofs.vectors.on_grid.Statement.{statement}
 use Rattle.motion_search.proofs.vectors.on_grid.Tie as tie

@@ -5,10 +5,11 @@ use native.Mathlib.Omega.{arith}
 use lib.IntN.{ℤ}
 use mir.Syntax.{w16}
 use mir.Facts.{toZ-ofZ}
-use Rattle.laws.specs.Signed.{back}
-use Rattle.search.specs.Search.{stepTo, rasterOf}
+use Rattle.laws.proofs.Signed.{back}
+use Rattle.search.specs.Search.{rasterOf}
+use Rattle.laws.specs.Square.{stepTo}
 use Rattle.search.proofs.Grid.{range-fits}
-use Rattle.search.proofs.Refine.{place-most}
+use Rattle.laws.proofs.Square.{place-most}
 use borrow.Author.Needs.{needs}
 use Rattle.motion_search.proofs.vectors.raster_of.Statement.{statement}
 use Rattle.motion_search.proofs.vectors.raster_of.Tie as tie

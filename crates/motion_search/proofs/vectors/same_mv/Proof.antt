@@ -6,7 +6,8 @@ use lib.IntN.{ℤ}
 use mir.Syntax.{w16}
 use mir.Val.{SFits, toZ, ofZ}
 use mir.Facts.{toZ-ofZ}
-use Rattle.laws.specs.Signed.{eqZ, eq-eqZ, ne-eqZ}
+use Rattle.laws.specs.Signed.{eqZ}
+use Rattle.laws.proofs.Signed.{eq-eqZ, ne-eqZ}
 use Rattle.motion_search.proofs.vectors.same_mv.Statement.{statement}
 use Rattle.motion_search.proofs.vectors.same_mv.Tie as tie
 

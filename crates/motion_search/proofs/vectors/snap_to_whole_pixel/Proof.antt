@@ -5,7 +5,7 @@ use lib.Signed.{quotZ}
 use mir.Syntax.{w16}
 use mir.Val.{SFits}
 use mir.Facts.{toZ-ofZ}
-use Rattle.laws.specs.Signed.{range, quot, times}
+use Rattle.laws.proofs.Signed.{range, quot, times}
 use Rattle.motion_search.proofs.vectors.snap_to_whole_pixel.Statement.{statement}
 use Rattle.motion_search.proofs.vectors.snap_to_whole_pixel.Tie as tie
 

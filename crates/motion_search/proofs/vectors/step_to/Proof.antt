@@ -9,7 +9,7 @@ use mir.Syntax.{w16}
 use mir.Val.{SFits, toZ, ofZ}
 use mir.ValLaws.{toZ-pos}
 use mir.Facts.{toZ-ofZ}
-use Rattle.laws.specs.Signed.{sum, diff, self}
+use Rattle.laws.proofs.Signed.{sum, diff, self}
 use Rattle.motion_search.proofs.vectors.step_to.Statement.{statement}
 use Rattle.motion_search.proofs.vectors.step_to.Tie as tie
 

@@ -4,7 +4,7 @@ use borrow.Author.Needs.{needs}
 use mir.Syntax.{w16}
 use mir.Val.{SFits}
 use mir.Facts.{toZ-ofZ}
-use Rattle.laws.specs.Signed.{back}
+use Rattle.laws.proofs.Signed.{back}
 use Rattle.search.specs.Search.{onGrid}
 use Rattle.motion_search.proofs.vectors.to_grid.Statement.{statement}
 use Rattle.motion_search.proofs.vectors.to_grid.Tie as tie

@@ -7,7 +7,8 @@ use lib.IntN.{ℤ, pos, natAbs, _-ℤ_}
 use mir.Syntax.{w32}
 use mir.Val.{SFits}
 use mir.Facts.{toZ-ofZ, toZ-pos}
-use Rattle.laws.specs.Signed.{above, below, diff, self, lt-true, lt-false, signs}
+use Rattle.laws.specs.Signed.{above, below}
+use Rattle.laws.proofs.Signed.{diff, self, lt-true, lt-false, signs}
 use Rattle.prediction.specs.Samples.{distance}
 use Rattle.prediction.proofs.inverse_transform.abs_diff.Statement.{statement}
 use Rattle.prediction.proofs.inverse_transform.abs_diff.Tie as tie

@@ -1,6 +1,6 @@
 use native.Mathlib.Omega.{arith}
 use mir.Facts.{toZ-ofZ}
-use Rattle.laws.specs.Signed.{signs, range, self}
+use Rattle.laws.proofs.Signed.{signs, range, self}
 use Rattle.prediction.proofs.inverse_transform.clamp255.Statement.{statement}
 use Rattle.prediction.proofs.inverse_transform.clamp255.Tie as tie
 

@@ -6,7 +6,7 @@ use lib.Signed.{ltZ}
 use mir.Syntax.{w16, w32}
 use mir.Val.{SFits}
 use mir.Facts.{toZ-ofZ, sfits-widen}
-use Rattle.laws.specs.Signed.{signs, range, times, sum, diff, self}
+use Rattle.laws.proofs.Signed.{signs, range, times, sum, diff, self}
 use Rattle.prediction.proofs.motion_comp.double.Statement.{statement}
 use Rattle.prediction.proofs.motion_comp.double.Tie as tie
 

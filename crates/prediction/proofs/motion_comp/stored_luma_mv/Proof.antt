@@ -4,7 +4,7 @@ use mathlib.Core.Path.{_≡_, _∙_, ap}
 use mir.Syntax.{w16}
 use mir.Val.{SFits}
 use mir.Facts.{toZ-ofZ}
-use Rattle.laws.specs.Signed.{back}
+use Rattle.laws.proofs.Signed.{back}
 use Rattle.prediction.specs.Vector.{doubled}
 use Rattle.prediction.proofs.motion_comp.stored_luma_mv.Statement.{statement}
 use Rattle.prediction.proofs.motion_comp.stored_luma_mv.Tie as tie

@@ -3,12 +3,12 @@ use lib.Signed.{quotZ}
 use mir.Syntax.{w32}
 use mir.Val.{SFits}
 use mir.Facts.{toZ-ofZ}
-use Rattle.laws.specs.Signed.{range, quot}
+use Rattle.laws.proofs.Signed.{range, quot}
 use Rattle.denoiser.proofs.Planes.{short-fits, short-in, not-luma}
 use native.Mathlib.Omega.{arith}
 use borrow.Author.Needs.{needs}
-use Rattle.arnr.proofs.accumulate.shift_in.Statement.{statement}
-use Rattle.arnr.proofs.accumulate.shift_in.Tie as tie
+use Rattle.arnr.proofs.accumulate.displacement_in.Statement.{statement}
+use Rattle.arnr.proofs.accumulate.displacement_in.Tie as tie
 
 half-fits : (v : ℤ) → SFits w32 v → SFits w32 (quotZ v (pos 2))
 half-fits v f = omega (arith, range f, quot v 2)
@@ -36,5 +36,5 @@ returns-2 c =
       simp (toZ-ofZ (f .0), toZ-ofZ (f .1), toZ-ofZ (half-fits _ (f .0)), toZ-ofZ (half-fits _ (f .1))) (short-in 1 (s .args .d) (s .pre)),
     )
 
-pub shift-in-spec : {M : Type 1} → statement M
-shift-in-spec = tie.close (tie.spec returns div-dx div-dy returns-2)
+pub displacement-in-spec : {M : Type 1} → statement M
+displacement-in-spec = tie.close (tie.spec returns div-dx div-dy returns-2)

@@ -1,0 +1,11 @@
+pub mod Signed
+pub mod Tabulate
+pub mod Tables
+pub mod Sums
+pub mod Largest
+pub mod Each
+pub mod Best
+pub mod First
+pub mod Square
+pub mod Outcome
+pub mod Slices
