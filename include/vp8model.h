@@ -3,14 +3,15 @@
  *
  * Link target/staticlib/libmodel.a, which `rt staticlib model` writes (x86-64).
  *
- * Any numbers may be passed. A pointer and its length name a lent slice, whose bytes are readable, and
+ * Any numbers may be passed. A pointer and its length, in entries, name a lent slice, which is readable, and
  * writable where it is not const; it is aligned as its type asks, and where its length is 0 the pointer
- * still is not null. A writable slice shares no byte with another argument. Fixed arrays have the length
- * that is written.
+ * still is not null. Fixed arrays are lent alike and have the length that is written. A writable slice or
+ * array shares no byte with another argument.
  *
- * The first field of a result is `refusal`: 0 where the call is accepted, else the number of the first
- * refusal that applies. Every field that the refusal does not name is then 0, and every lent slice and
- * array holds what it held before. Calls that are never refused give their number as it is.
+ * The first field of every struct that is returned, but vp8model_frame, is `refusal`: 0 where the call is
+ * accepted, else the number of the first refusal that applies. Every field that the refusal does not name is
+ * then 0, and every lent slice and array holds what it held before. Calls that are never refused give their
+ * number or their frame as it is, and vp8model_stored_luma_mv a refusal of 0.
  *
  *   1  the centre index is not below the frame count
  *   2  the frame count exceeds 1024
@@ -63,7 +64,7 @@ typedef struct vp8model_vector {
     int16_t col;
 } vp8model_vector;
 
-/* The sum of absolute differences (SAD) of a macroblock, 0 to 65280. */
+/* The sum of absolute differences (SAD) of a macroblock and its prediction, 0 to 65280. */
 typedef struct vp8model_sad {
     uint32_t refusal;
     uint32_t sad;
@@ -77,8 +78,8 @@ typedef struct vp8model_search {
     uint32_t sad;
 } vp8model_search;
 
-/* The diamond's last best and its SAD; the SADs computed, the first included; the rounds made, the last
- * one without a move included. */
+/* The diamond's last best, in quarter pixels, and its SAD; the SADs computed, the first included; the rounds
+ * made, a last one without a move included. */
 typedef struct vp8model_diamond {
     uint32_t refusal;
     int16_t row;
@@ -99,8 +100,8 @@ typedef struct vp8model_frame {
     uint32_t chroma_stride;
 } vp8model_frame;
 
-/* A builder's answer: the picture's size and the accepted blocks over all other frames, or a refusal's
- * values (see the table above). */
+/* A builder's answer: the picture's size and the number of accepted blocks over all other frames, or a
+ * refusal's values (see the table above); the other fields are 0. */
 typedef struct vp8model_build {
     uint32_t refusal;
     uint32_t width;
@@ -112,14 +113,15 @@ typedef struct vp8model_build {
 } vp8model_build;
 
 /* Samples and vectors. A vector is in quarter pixels; stored, it is in eighths: each component doubled,
- * wrapping. whole_offset and fraction take a component in eighths. */
+ * wrapping. whole_offset and fraction take a component in eighths: an eighth of it rounded down, also below
+ * zero, and the rest, 0 to 7. */
 uint8_t vp8model_clamp255(int32_t v);
 uint8_t vp8model_abs_diff(uint8_t a, uint8_t b);
 vp8model_vector vp8model_stored_luma_mv(int16_t row, int16_t col);
 int32_t vp8model_whole_offset(int16_t v);
 uint32_t vp8model_fraction(int16_t v);
 
-/* 0: the six-tap rows, 1: the bilinear rows. */
+/* 0: the six-tap rows, for version 0; 1: the bilinear rows, for every other. No call here filters by these. */
 uint32_t vp8model_filter_set_for_version(uint8_t version);
 
 /* One sample by the six-tap row of a selector, and a macroblock from its halo: selector mx across, then
@@ -128,7 +130,8 @@ vp8model_sample vp8model_interp(uint32_t selector, const uint8_t support[6]);
 vp8model_status vp8model_sixtap_mb_luma(const uint8_t halo[441], uint32_t mx, uint32_t my,
                                         uint8_t block[256]);
 
-/* Whether refusal 8, or refusal 9 at a plane of `len` bytes, applies: 1 or 0. */
+/* Whether refusal 8, or refusal 9 at a plane of `len` bytes, applies: 1 or 0. vp8model_short_plane counts a
+ * height of 0 as one row. */
 uint8_t vp8model_bad_size(size_t width, size_t height);
 uint8_t vp8model_short_plane(size_t len, size_t stride, size_t width, size_t height);
 
@@ -141,7 +144,8 @@ vp8model_status vp8model_fetch_luma_mb_halo(const uint8_t *plane, size_t plane_l
                                             size_t width, size_t height, size_t x, size_t y,
                                             int16_t mv_row, int16_t mv_col, uint8_t halo[441]);
 
-/* SADs of a source macroblock and its prediction. Refusals 8 to 12; the one at any vector never gives 12. */
+/* SADs of a source macroblock and its prediction. vp8model_block_sad_16x16 takes both as they are and refuses
+ * nothing. The others: refusals 8 to 12; the one at any vector never gives 12. */
 uint32_t vp8model_block_sad_16x16(const uint8_t src[256], const uint8_t pred[256]);
 vp8model_sad vp8model_mb_luma_sad_at_whole_mv(const uint8_t *plane, size_t plane_len, size_t stride,
                                               size_t width, size_t height, size_t mb_col, size_t mb_row,
@@ -150,8 +154,8 @@ vp8model_sad vp8model_mb_luma_sad_at_mv(const uint8_t *plane, size_t plane_len, 
                                         size_t width, size_t height, size_t mb_col, size_t mb_row,
                                         const uint8_t src_y[256], int16_t mv_row, int16_t mv_col);
 
-/* The small diamond around any centre, at most max_iters rounds: refusals 8 to 10. Half and quarter
- * refinement of a centre: refusals 8 to 12. */
+/* The small diamond from any centre, at most max_iters rounds: refusals 8 to 10. Half and quarter
+ * refinement of a centre: refusals 8 to 12. Vectors are in quarter pixels. */
 vp8model_diamond vp8model_small_diamond_search_luma(const uint8_t *plane, size_t plane_len, size_t stride,
                                                     size_t width, size_t height, size_t mb_col,
                                                     size_t mb_row, const uint8_t src_y[256],
@@ -166,8 +170,8 @@ vp8model_search vp8model_quarter_pixel_refine_luma(const uint8_t *plane, size_t 
                                                    size_t mb_row, const uint8_t src_y[256],
                                                    int16_t center_row, int16_t center_col);
 
-/* The weights of the differences 0 to 255 at a strength, one of them, the scale, and how far n other
- * frames can move a sample. */
+/* The weights of the differences 0 to 255 at a strength, one of them, the scale, and the distance bound:
+ * n other frames move no sample farther. Strengths 7 to 255 are read as 6; at 0 every weight is 0. */
 void vp8model_curve(uint8_t strength, uint32_t curve[256]);
 uint32_t vp8model_weight(uint8_t strength, uint8_t e);
 uint32_t vp8model_scale_of(uint8_t strength);
@@ -179,18 +183,19 @@ uint8_t vp8model_arnr_config_default(void);
 uint8_t vp8model_arnr_config_with_strength(uint8_t config, uint8_t v);
 
 /* Frames as seven numbers each, in the order of vp8model_frame: how many there are (numbers left over are
- * not read), and frame g (numbers past the end are 0). */
+ * not read), and frame g; from the frame count on, the frame of zeros. */
 size_t vp8model_frame_count(const uint32_t *numbers, size_t numbers_len);
 vp8model_frame vp8model_frame_at(const uint32_t *numbers, size_t numbers_len, size_t g);
 
-/* The builder's checks alone, by the lengths of its three lent slices; accepted is 0. */
+/* The builder's checks alone, by the lengths of its three lent slices: the picture's size, or the first of the
+ * refusals 1 to 7; accepted is 0. */
 vp8model_build vp8model_check_build(const uint8_t *bytes, size_t bytes_len, const uint32_t *numbers,
                                     size_t numbers_len, size_t centre, size_t output_len, size_t sums_len,
                                     size_t weights_len);
 
-/* The builder over numbers and over records. Refusals 1 to 7. The first P entries of output are then Y, U
- * and V, packed; those of sums and weights the sums and total weights, unless the centre is only cropped
- * (one frame, or strength 0), where they are unchanged. Entries past P are unchanged. */
+/* The builder over numbers and over records. Refusals 1 to 7. Where it is accepted, the first P entries of
+ * output are Y, U and V, packed; those of sums and weights the sums and total weights, unless the centre is
+ * only cropped (one frame, or strength 0), where they are unchanged. Entries past P are unchanged. */
 vp8model_build vp8model_build_from_numbers(const uint8_t *bytes, size_t bytes_len,
                                            const uint32_t *numbers, size_t numbers_len, size_t centre,
                                            uint8_t strength, uint8_t *output, size_t output_len,
