@@ -3,15 +3,15 @@
  *
  * Link target/staticlib/libmodel.a, which `rt staticlib model` writes (x86-64).
  *
- * Any numbers may be passed. A pointer and its length, in entries, name a lent slice, which is readable, and
- * writable where it is not const; it is aligned as its type asks, and where its length is 0 the pointer
+ * Any numbers may be passed. A pointer and its length, in entries, name a lent slice, which is readable,
+ * and writable where it is not const; it is aligned as its type asks, and where its length is 0 the pointer
  * still is not null. Fixed arrays are lent alike and have the length that is written. A writable slice or
  * array shares no byte with another argument.
  *
  * The first field of every struct that is returned, but vp8model_frame, is `refusal`: 0 where the call is
- * accepted, else the number of the first refusal that applies. Every field that the refusal does not name is
- * then 0, and every lent slice and array holds what it held before. Calls that are never refused give their
- * number or their frame as it is, and vp8model_stored_luma_mv a refusal of 0.
+ * accepted, else the number of the first refusal that applies. Every field that the refusal does not name
+ * is then 0, and every lent slice and array holds what it held before. Calls that are never refused give
+ * their number or their frame as it is, and vp8model_stored_luma_mv a refusal of 0.
  *
  *   1  the centre index is not below the frame count
  *   2  the frame count exceeds 1024
@@ -78,8 +78,8 @@ typedef struct vp8model_search {
     uint32_t sad;
 } vp8model_search;
 
-/* The diamond's last best, in quarter pixels, and its SAD; the SADs computed, the first included; the rounds
- * made, a last one without a move included. */
+/* The diamond's last best, in quarter pixels, and its SAD; the SADs computed, the first included; the
+ * rounds made, a last one without a move included. */
 typedef struct vp8model_diamond {
     uint32_t refusal;
     int16_t row;
@@ -121,7 +121,7 @@ vp8model_vector vp8model_stored_luma_mv(int16_t row, int16_t col);
 int32_t vp8model_whole_offset(int16_t v);
 uint32_t vp8model_fraction(int16_t v);
 
-/* 0: the six-tap rows, for version 0; 1: the bilinear rows, for every other. No call here filters by these. */
+/* 0: the six-tap rows, for version 0; 1: the bilinear rows, for every other, by which no call here filters. */
 uint32_t vp8model_filter_set_for_version(uint8_t version);
 
 /* One sample by the six-tap row of a selector, and a macroblock from its halo: selector mx across, then
@@ -144,8 +144,8 @@ vp8model_status vp8model_fetch_luma_mb_halo(const uint8_t *plane, size_t plane_l
                                             size_t width, size_t height, size_t x, size_t y,
                                             int16_t mv_row, int16_t mv_col, uint8_t halo[441]);
 
-/* SADs of a source macroblock and its prediction. vp8model_block_sad_16x16 takes both as they are and refuses
- * nothing. The others: refusals 8 to 12; the one at any vector never gives 12. */
+/* SADs of a source macroblock and its prediction. vp8model_block_sad_16x16 takes both as they are and
+ * refuses nothing. The others: refusals 8 to 12; the one at any vector never gives 12. */
 uint32_t vp8model_block_sad_16x16(const uint8_t src[256], const uint8_t pred[256]);
 vp8model_sad vp8model_mb_luma_sad_at_whole_mv(const uint8_t *plane, size_t plane_len, size_t stride,
                                               size_t width, size_t height, size_t mb_col, size_t mb_row,
@@ -187,8 +187,8 @@ uint8_t vp8model_arnr_config_with_strength(uint8_t config, uint8_t v);
 size_t vp8model_frame_count(const uint32_t *numbers, size_t numbers_len);
 vp8model_frame vp8model_frame_at(const uint32_t *numbers, size_t numbers_len, size_t g);
 
-/* The builder's checks alone, by the lengths of its three lent slices: the picture's size, or the first of the
- * refusals 1 to 7; accepted is 0. */
+/* The builder's checks alone, by the lengths of its three lent slices: the picture's size, or the first of
+ * the refusals 1 to 7; accepted is 0. */
 vp8model_build vp8model_check_build(const uint8_t *bytes, size_t bytes_len, const uint32_t *numbers,
                                     size_t numbers_len, size_t centre, size_t output_len, size_t sums_len,
                                     size_t weights_len);
