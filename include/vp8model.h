@@ -11,7 +11,7 @@
  * The first field of every struct that is returned, but vp8model_frame, is `refusal`: 0 where the call is
  * accepted, else the number of the first refusal that applies. Every field that the refusal does not name
  * is then 0, and every lent slice and array holds what it held before. Calls that are never refused give
- * their number or their frame as it is, and vp8model_stored_luma_mv a refusal of 0.
+ * their number, frame or array as it is, and vp8model_stored_luma_mv a refusal of 0.
  *
  *   1  the centre index is not below the frame count
  *   2  the frame count exceeds 1024
