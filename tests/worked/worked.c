@@ -1,0 +1,509 @@
+/*
+ * Computes the worked cases of docs/MODEL.md, section 8, with the library, from the formulas that the page states, and
+ * prints each as it stands there: a block that opens with ```worked NAME. `tests/worked/run` compares the two.
+ *
+ * Two kinds of numbers are not the library's answers: the cost of a displacement, for which it is asked for the SAD of
+ * two blocks, and the products of a filter, from which its sample has to follow. The program ends with status 1 where
+ * something that has to agree does not.
+ */
+#include "vp8model.h"
+
+#include <inttypes.h>
+#include <stdio.h>
+#include <stdlib.h>
+#include <string.h>
+
+static void open_case(const char *name)
+{
+    printf("```worked %s\n", name);
+}
+
+static void close_case(void)
+{
+    printf("```\n");
+}
+
+static void require(int holds, const char *what)
+{
+    if (!holds) {
+        fprintf(stderr, "worked: %s\n", what);
+        exit(1);
+    }
+}
+
+/* ---- strengths */
+
+/* The greatest difference whose weight is not 0, or -1 where there is none. */
+static int reach(uint8_t strength)
+{
+    uint32_t curve[256];
+    vp8model_curve(strength, curve);
+    int e = 255;
+    while (0 <= e && curve[e] == 0)
+        e--;
+    return e;
+}
+
+static void strengths(void)
+{
+    static const uint8_t asked[] = {0, 1, 2, 3, 4, 5, 6, 7, 255};
+    open_case("strengths");
+    for (size_t i = 0; i < sizeof asked; i++) {
+        uint8_t s = asked[i];
+        printf("strength %u: scale %" PRIu32 ", ", (unsigned)s, vp8model_scale_of(s));
+        if (reach(s) < 0)
+            printf("no weights");
+        else
+            printf("weights to %d", reach(s));
+        printf(", w(0) %" PRIu32 ", w(4) %" PRIu32, vp8model_weight(s, 0), vp8model_weight(s, 4));
+        printf(", bound of 1 other %" PRIu32 ", of 16 %" PRIu32 "\n", vp8model_distance_bound(1, s),
+               vp8model_distance_bound(16, s));
+    }
+    close_case();
+}
+
+/* ---- windows: what is lent, each entry first 7, and how it is printed */
+
+#define MOST 512
+#define MARK 7
+
+static uint8_t output[MOST];
+static uint32_t sums[MOST], weights[MOST];
+
+static vp8model_build build(const uint8_t *bytes, size_t bytes_len, const vp8model_frame *frames, size_t count,
+                            size_t centre, uint8_t strength, size_t output_len, size_t sums_len)
+{
+    for (size_t i = 0; i < MOST; i++) {
+        output[i] = MARK;
+        sums[i] = MARK;
+        weights[i] = MARK;
+    }
+    return vp8model_build_arnr_altref(bytes, bytes_len, frames, count, centre, strength, output, output_len, sums,
+                                      sums_len, weights, MOST);
+}
+
+static void print_words(const char *what, const uint32_t *v, size_t n)
+{
+    printf("%s", what);
+    for (size_t i = 0; i < n; i++)
+        printf(" %" PRIu32, v[i]);
+}
+
+static void print_bytes(const char *what, const uint8_t *v, size_t n)
+{
+    printf("%s", what);
+    for (size_t i = 0; i < n; i++)
+        printf(" %u", (unsigned)v[i]);
+}
+
+/* ---- small windows: pictures of 1 by 1 and of 2 by 1, packed as Y, U, V */
+
+static const uint8_t small_bytes[] = {
+    100, 60, 200,      /* 0: the centre */
+    104, 60, 240,      /* 3: A */
+    112, 60, 200,      /* 6: B */
+    113, 60, 200,      /* 9: C */
+    101, 100, 60, 200, /* 12: the centre of 2 by 1 */
+    113, 113, 60, 200, /* 16: D */
+};
+
+/* A window of `width` by 1 whose frames begin at `starts`, the first of them the centre; the first P + 1 entries. */
+static void small_build(const char *what, uint32_t width, const uint32_t *starts, size_t count, uint8_t strength,
+                        size_t output_len, size_t sums_len)
+{
+    vp8model_frame frames[3];
+    for (size_t g = 0; g < count; g++) {
+        uint32_t y = starts[g];
+        vp8model_frame f = {width, 1, y, y + width, y + width + 1, width, 1};
+        frames[g] = f;
+    }
+    vp8model_build b = build(small_bytes, sizeof small_bytes, frames, count, 0, strength, output_len, sums_len);
+    if (b.refusal != 0)
+        printf("%s: refusal %" PRIu32, what, b.refusal);
+    else
+        printf("%s: accepted %" PRIu32, what, b.accepted);
+    print_bytes("; output", output, width + 3);
+    print_words("; sums", sums, width + 3);
+    print_words("; totals", weights, width + 3);
+    printf("\n");
+}
+
+static void small_windows(void)
+{
+    static const uint32_t a[] = {0, 3}, b[] = {0, 6}, c[] = {0, 9}, d[] = {12, 16};
+    static const uint32_t twice[] = {0, 3, 3}, itself[] = {0, 0};
+    open_case("small-windows");
+    small_build("A, strength 1", 1, a, 2, 1, MOST, MOST);
+    small_build("A twice, strength 1", 1, twice, 3, 1, MOST, MOST);
+    small_build("A, strength 6", 1, a, 2, 6, MOST, MOST);
+    small_build("A, strength 255", 1, a, 2, 255, MOST, MOST);
+    small_build("B, strength 1", 1, b, 2, 1, MOST, MOST);
+    small_build("C, strength 1", 1, c, 2, 1, MOST, MOST);
+    small_build("D, strength 1", 2, d, 2, 1, MOST, MOST);
+    small_build("the centre again, strength 1", 1, itself, 2, 1, MOST, MOST);
+    small_build("A, strength 0", 1, a, 2, 0, MOST, MOST);
+    small_build("no other, strength 1", 1, a, 1, 1, MOST, MOST);
+    small_build("no other, output of 2", 1, a, 1, 1, 2, MOST);
+    small_build("no other, sums of 2", 1, a, 1, 1, MOST, 2);
+    small_build("no frames", 1, a, 0, 1, MOST, MOST);
+    close_case();
+}
+
+/* ---- a moved edge: two frames of 17 by 3, the other one first, packed */
+
+#define WIDTH 17
+#define HEIGHT 3
+#define CHROMA_WIDTH 9
+#define CHROMA_HEIGHT 2
+#define SAMPLES 87
+
+static uint8_t centre_y(int x)
+{
+    return x < 6 ? 50 : 90;
+}
+
+static uint8_t other_y(int x)
+{
+    return x < 3 ? 52 : x < 16 ? 92 : 200;
+}
+
+static uint8_t edge_bytes[2 * SAMPLES];
+
+static void lend_edge(void)
+{
+    uint8_t *other = edge_bytes, *centre = edge_bytes + SAMPLES;
+    for (int i = 0; i < WIDTH * HEIGHT; i++) {
+        other[i] = other_y(i % WIDTH);
+        centre[i] = centre_y(i % WIDTH);
+    }
+    for (int i = 0; i < CHROMA_WIDTH * CHROMA_HEIGHT; i++) {
+        int x = i % CHROMA_WIDTH, y = i / CHROMA_WIDTH;
+        other[51 + i] = (uint8_t)(100 + x + 10 * y);
+        other[69 + i] = (uint8_t)(120 - 2 * x - 5 * y);
+        centre[51 + i] = 100;
+        centre[69 + i] = 120;
+    }
+}
+
+/* The cost of the displacement (dx, any dy) for the columns first .. last: the library's SAD of two blocks that hold
+ * the three rows of these columns, and zeros elsewhere. */
+static uint32_t edge_cost(int first, int last, int dx)
+{
+    uint8_t a[256] = {0}, b[256] = {0};
+    for (int y = 0; y < HEIGHT; y++) {
+        for (int x = first; x <= last; x++) {
+            int moved = x + dx < 0 ? 0 : x + dx < WIDTH ? x + dx : WIDTH - 1;
+            a[y * 16 + x - first] = centre_y(x);
+            b[y * 16 + x - first] = other_y(moved);
+        }
+    }
+    return vp8model_block_sad_16x16(a, b);
+}
+
+static void edge_costs(void)
+{
+    open_case("edge-costs");
+    printf("first block:");
+    for (int dx = -8; dx <= 8; dx++)
+        printf(" %d:%" PRIu32, dx, edge_cost(0, 15, dx));
+    printf("\nsecond block:");
+    for (int dx = -15; dx <= 1; dx++)
+        printf(" %d:%" PRIu32, dx, edge_cost(16, 16, dx));
+    printf("\n");
+    close_case();
+}
+
+/* The rows of the three planes, a line each: of the output, or of a working slice. */
+static void print_edge(const uint8_t *samples, const uint32_t *held)
+{
+    static const size_t starts[] = {0, 17, 34, 51, 60, 69, 78, 87};
+    for (size_t i = 0; i < 7; i++) {
+        const char *plane = i < 3 ? "Y:" : i < 5 ? "U:" : "V:";
+        if (samples != NULL)
+            print_bytes(plane, samples + starts[i], starts[i + 1] - starts[i]);
+        else
+            print_words(plane, held + starts[i], starts[i + 1] - starts[i]);
+        printf("\n");
+    }
+}
+
+static void edge(void)
+{
+    static const vp8model_frame frames[2] = {{WIDTH, HEIGHT, 0, 51, 69, WIDTH, CHROMA_WIDTH},
+                                             {WIDTH, HEIGHT, 87, 138, 156, WIDTH, CHROMA_WIDTH}};
+    lend_edge();
+    edge_costs();
+    open_case("edge");
+    vp8model_build b = build(edge_bytes, sizeof edge_bytes, frames, 2, 1, 1, MOST, MOST);
+    require(b.refusal == 0, "the window of 17 by 3 was refused");
+    printf("width %" PRIu32 ", height %" PRIu32 ", accepted %" PRIu32 "\n", b.width, b.height, b.accepted);
+    printf("output\n");
+    print_edge(output, NULL);
+    printf("sums\n");
+    print_edge(NULL, sums);
+    printf("total weights\n");
+    print_edge(NULL, weights);
+    printf("entry 87 of each: %u %" PRIu32 " %" PRIu32 "\n", (unsigned)output[SAMPLES], sums[SAMPLES],
+           weights[SAMPLES]);
+    close_case();
+}
+
+/* ---- a corner: two frames of 17 by 17, and what the block of one sample at (16, 16) becomes */
+
+#define SIDE 17
+#define CHROMA_SIDE 9
+#define CORNER_SAMPLES (SIDE * SIDE + 2 * CHROMA_SIDE * CHROMA_SIDE)
+
+static uint8_t corner_bytes[2 * CORNER_SAMPLES];
+
+static void lend_corner(void)
+{
+    static const uint8_t marks[6][3] = {{16, 8, 108}, {8, 16, 108}, {12, 4, 106},
+                                        {8, 4, 101},  {14, 6, 103}, {13, 7, 102}};
+    uint8_t *centre = corner_bytes, *other = corner_bytes + CORNER_SAMPLES;
+    memset(centre, 100, CORNER_SAMPLES);
+    memset(other, 112, SIDE * SIDE);
+    for (size_t k = 0; k < 6; k++)
+        other[marks[k][1] * SIDE + marks[k][0]] = marks[k][2];
+    for (int i = 0; i < CHROMA_SIDE * CHROMA_SIDE; i++) {
+        other[289 + i] = (uint8_t)(100 + i % CHROMA_SIDE);
+        other[370 + i] = (uint8_t)(100 + i / CHROMA_SIDE);
+    }
+}
+
+static void corner(void)
+{
+    static const vp8model_frame frames[2] = {{SIDE, SIDE, 0, 289, 370, SIDE, CHROMA_SIDE},
+                                             {SIDE, SIDE, 451, 740, 821, SIDE, CHROMA_SIDE}};
+    static const size_t last[3] = {288, 369, 450};
+    lend_corner();
+    open_case("corner");
+    vp8model_build b = build(corner_bytes, sizeof corner_bytes, frames, 2, 0, 1, MOST, MOST);
+    require(b.refusal == 0, "the window of 17 by 17 was refused");
+    printf("width %" PRIu32 ", height %" PRIu32 ", accepted %" PRIu32 "\n", b.width, b.height, b.accepted);
+    for (size_t k = 0; k < 3; k++)
+        printf("entry %zu: output %u, sum %" PRIu32 ", total %" PRIu32 "\n", last[k], (unsigned)output[last[k]],
+               sums[last[k]], weights[last[k]]);
+    close_case();
+}
+
+/* ---- searches: a ramp of 64 by 48, and the macroblock in column 2 and row 1, whose samples the source exceeds by t */
+
+#define RAMP_WIDTH 64
+#define RAMP_HEIGHT 48
+
+static uint8_t ramp[RAMP_WIDTH * RAMP_HEIGHT];
+static uint8_t source[256];
+
+static void lend_ramp(void)
+{
+    for (int i = 0; i < RAMP_WIDTH * RAMP_HEIGHT; i++)
+        ramp[i] = (uint8_t)(i % RAMP_WIDTH + 3 * (i / RAMP_WIDTH));
+}
+
+static void lend_source(int t)
+{
+    for (int i = 0; i < 256; i++)
+        source[i] = (uint8_t)((32 + i % 16) + 3 * (16 + i / 16) + t);
+}
+
+/* The valley: |2 y - 47| in the plane, and a source of 255. */
+static void lend_valley(void)
+{
+    for (int i = 0; i < RAMP_WIDTH * RAMP_HEIGHT; i++)
+        ramp[i] = (uint8_t)abs(2 * (i / RAMP_WIDTH) - 47);
+    memset(source, 255, sizeof source);
+}
+
+static uint32_t sad_at(int row, int col)
+{
+    vp8model_sad s = vp8model_mb_luma_sad_at_mv(ramp, sizeof ramp, RAMP_WIDTH, RAMP_WIDTH, RAMP_HEIGHT, 2, 1, source,
+                                                (int16_t)row, (int16_t)col);
+    require(s.refusal == 0, "a SAD was refused");
+    return s.sad;
+}
+
+static uint32_t whole_sad_at(int row, int col)
+{
+    vp8model_sad s = vp8model_mb_luma_sad_at_whole_mv(ramp, sizeof ramp, RAMP_WIDTH, RAMP_WIDTH, RAMP_HEIGHT, 2, 1,
+                                                      source, (int16_t)row, (int16_t)col);
+    require(s.refusal == 0 && s.sad == sad_at(row, col), "the two SADs of a whole vector differ");
+    return s.sad;
+}
+
+static void print_tries(const char *what, const int v[4][2])
+{
+    printf("%s:", what);
+    for (int k = 0; k < 4; k++)
+        printf(" (%d, %d) %" PRIu32, v[k][0], v[k][1], whole_sad_at(v[k][0], v[k][1]));
+    printf("\n");
+}
+
+static void print_diamond(int row, int col, uint32_t limit)
+{
+    vp8model_diamond d =
+        vp8model_small_diamond_search_luma(ramp, sizeof ramp, RAMP_WIDTH, RAMP_WIDTH, RAMP_HEIGHT, 2, 1, source,
+                                           (int16_t)row, (int16_t)col, limit);
+    require(d.refusal == 0, "a diamond was refused");
+    printf("centre (%d, %d), limit %" PRIu32 ": (%d, %d), SAD %" PRIu32 ", SADs %" PRIu32 ", rounds %" PRIu32 "\n",
+           row, col, limit, d.row, d.col, d.sad, d.sads, d.rounds);
+}
+
+static void diamond(void)
+{
+    static const int first[4][2] = {{-4, 0}, {4, 0}, {4, -4}, {4, 4}};
+    static const int second[4][2] = {{0, 4}, {8, 4}, {8, 0}, {8, 8}};
+    static const int third[4][2] = {{4, 4}, {12, 4}, {8, 0}, {8, 8}};
+    static const int valley[4][2] = {{-4, 0}, {0, 0}, {-4, -4}, {-4, 4}};
+    lend_ramp();
+    lend_source(7);
+    open_case("diamond");
+    printf("start: (0, 0) %" PRIu32 "\n", whole_sad_at(0, 0));
+    print_tries("round 1", first);
+    print_tries("round 2", second);
+    print_tries("round 3", third);
+    print_diamond(0, 0, 0);
+    print_diamond(0, 0, 1);
+    print_diamond(0, 0, 2);
+    print_diamond(0, 0, 3);
+    print_diamond(0, 0, UINT32_MAX);
+    print_diamond(3, -7, 0);
+    print_diamond(32767, -1023, UINT32_MAX);
+    lend_valley();
+    printf("valley\n");
+    printf("start: (0, 0) %" PRIu32 "\n", whole_sad_at(0, 0));
+    print_tries("round 1", valley);
+    print_diamond(0, 0, 1);
+    print_diamond(0, 0, UINT32_MAX);
+    close_case();
+}
+
+/* The nine SADs of a refinement, as the square stands, and its answer. */
+static void print_refinement(const char *what, int row, int col, int step, int t)
+{
+    lend_source(t);
+    printf("%s of (%d, %d), t = %d\n", what, row, col, t);
+    for (int r = row - step; r <= row + step; r += step) {
+        for (int c = col - step; c <= col + step; c += step)
+            printf("%s(%d, %d) %" PRIu32, c == col - step ? "" : "   ", r, c, sad_at(r, c));
+        printf("\n");
+    }
+    vp8model_search s =
+        step == VP8MODEL_HALF_PIXEL_STEP
+            ? vp8model_half_pixel_refine_luma(ramp, sizeof ramp, RAMP_WIDTH, RAMP_WIDTH, RAMP_HEIGHT, 2, 1, source,
+                                              (int16_t)row, (int16_t)col)
+            : vp8model_quarter_pixel_refine_luma(ramp, sizeof ramp, RAMP_WIDTH, RAMP_WIDTH, RAMP_HEIGHT, 2, 1, source,
+                                                 (int16_t)row, (int16_t)col);
+    require(s.refusal == 0, "a refinement was refused");
+    printf("gives (%d, %d), SAD %" PRIu32 "\n", s.row, s.col, s.sad);
+}
+
+static void refinements(void)
+{
+    lend_ramp();
+    open_case("refinements");
+    print_refinement("half", 0, 0, VP8MODEL_HALF_PIXEL_STEP, 2);
+    print_refinement("half", 0, 0, VP8MODEL_HALF_PIXEL_STEP, 0);
+    print_refinement("quarter", 2, -2, VP8MODEL_QUARTER_PIXEL_STEP, 1);
+    close_case();
+}
+
+/* ---- two passes: one sample of the halo whose sample at column x and row y of it is (4 x + 124 y) mod 256 */
+
+static uint8_t halo[441];
+
+/* Six products by the taps of a selector that is 2 or 4, and the library's sample, which has to follow from them. */
+static uint8_t filtered(uint32_t selector, const uint8_t six[6], const char *what)
+{
+    static const int taps[2][6] = {{2, -11, 108, 36, -8, 1}, {3, -16, 77, 77, -16, 3}};
+    int sum = 0;
+    printf("%s:", what);
+    for (int k = 0; k < 6; k++) {
+        sum += taps[selector / 2 - 1][k] * six[k];
+        printf(" %u", (unsigned)six[k]);
+    }
+    vp8model_sample s = vp8model_interp(selector, six);
+    int up = sum + 64 < 0 ? 0 : (sum + 64) / 128;
+    uint32_t expected = up < 255 ? (uint32_t)up : 255;
+    require(s.refusal == 0 && s.sample == expected, "a sample does not follow from its products");
+    printf("; products %d, sample %" PRIu32 "\n", sum, s.sample);
+    return (uint8_t)s.sample;
+}
+
+static void two_passes(void)
+{
+    uint8_t across[6], block[256];
+    for (int i = 0; i < 441; i++)
+        halo[i] = (uint8_t)((4 * (i % 21) + 124 * (i / 21)) % 256);
+    open_case("two-passes");
+    for (int y = 0; y < 6; y++) {
+        char what[32];
+        snprintf(what, sizeof what, "across, halo row %d", y);
+        across[y] = filtered(2, halo + 21 * y, what);
+    }
+    uint8_t sample = filtered(4, across, "down");
+    vp8model_status s = vp8model_sixtap_mb_luma(halo, 2, 4, block);
+    require(s.refusal == 0 && block[0] == sample, "the macroblock's first sample is not that of the two passes");
+    print_bytes("macroblock row 0, first columns:", block, 4);
+    print_bytes("\nmacroblock row 1, first columns:", block + 16, 4);
+    s = vp8model_sixtap_mb_luma(halo, 4, 2, block);
+    require(s.refusal == 0, "selectors (4, 2) were refused");
+    print_bytes("\nby (4, 2), macroblock row 0, first columns:", block, 4);
+    printf("\n");
+    close_case();
+}
+
+/* ---- strides below the width */
+
+static const uint8_t few[6] = {10, 20, 30, 40, 50, 60};
+
+/* The first five columns and rows of what is fetched from the first `length` of these bytes, 3 columns and 4 rows: the
+ * macroblock, or its halo. */
+static void print_fetch(const char *what, size_t length, size_t stride, int of_halo, size_t x, size_t y, int16_t row,
+                        int16_t col)
+{
+    uint8_t block[256];
+    vp8model_status s =
+        of_halo ? vp8model_fetch_luma_mb_halo(few, length, stride, 3, 4, x, y, row, col, halo)
+                : vp8model_fetch_luma_mb_whole_pixel(few, length, stride, 3, 4, x, y, row, col, block);
+    require(s.refusal == 0, "a fetch was refused");
+    printf("%s\n", what);
+    for (size_t i = 0; i < 25; i++) {
+        uint8_t sample = of_halo ? halo[i / 5 * 21 + i % 5] : block[i / 5 * 16 + i % 5];
+        printf("%u%s", (unsigned)sample, i % 5 == 4 ? "\n" : " ");
+    }
+}
+
+static void narrow_strides(void)
+{
+    uint8_t block[256], line[16], tens[256];
+    memset(tens, 10, sizeof tens);
+    for (size_t i = 0; i < 16; i++)
+        line[i] = (uint8_t)i;
+    open_case("narrow-strides");
+    print_fetch("stride 1, from (0, 0), vector (0, 0)", 6, 1, 0, 0, 0, 0, 0);
+    print_fetch("stride 1, from (1, 0), vector (17, -15)", 6, 1, 0, 1, 0, 17, -15);
+    print_fetch("its halo", 6, 1, 1, 1, 0, 17, -15);
+    print_fetch("stride 0, from (0, 0), vector (0, 0)", 3, 0, 0, 0, 0, 0, 0);
+    printf("stride 1, 5 bytes: refusal %" PRIu32 "\n",
+           vp8model_fetch_luma_mb_whole_pixel(few, 5, 1, 3, 4, 0, 0, 0, 0, block).refusal);
+    vp8model_sad s = vp8model_mb_luma_sad_at_whole_mv(line, 16, 0, 16, 16, 0, 0, tens, 0, 0);
+    printf("stride 0, 16 bytes, SAD: refusal %" PRIu32 ", SAD %" PRIu32 "\n", s.refusal, s.sad);
+    printf("short plane of 3 bytes, stride 9, width 3, height 0, 1, 2: %u %u %u\n",
+           (unsigned)vp8model_short_plane(3, 9, 3, 0), (unsigned)vp8model_short_plane(3, 9, 3, 1),
+           (unsigned)vp8model_short_plane(3, 9, 3, 2));
+    close_case();
+}
+
+int main(void)
+{
+    strengths();
+    small_windows();
+    edge();
+    corner();
+    diamond();
+    refinements();
+    two_passes();
+    narrow_strides();
+    return 0;
+}
