@@ -1,4 +1,5 @@
-// Prints the distance bounds: for each window length a line with n, the count of other frames, and the bounds of strengths 1 to 6.
+// Prints the distance bounds: for 1 to 16, 31, 63, 127, 255, 511 and 1023 other frames a line with n, their count, and the bounds of
+// strengths 1 to 6.
 use libc::STDOUT_FILENO;
 
 fn print_bound(n: u32, strength: u8) {
