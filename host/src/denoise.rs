@@ -1,9 +1,12 @@
 //! `vp8model denoise`: raw I420 frames in, one denoised picture out.
 
 use crate::failure::Failure;
-use crate::files::{append, opened, room, write, write_numbers, zeros};
+use crate::files::{append, opened, room, zeros};
 use crate::model::{self, Filled, Frame};
+use crate::names::{Named, apart};
+use crate::outputs::{self, Content};
 use crate::progress::Progress;
+use crate::say::note;
 use crate::words::Words;
 use std::path::Path;
 
@@ -15,6 +18,7 @@ pub fn run(words: &[String]) -> Result<(), Failure> {
     let strength: u8 = words.number("--strength", u8::MAX)?;
     let centre: u32 = words.number("--centre", u32::MAX)?;
     let [input, output] = words.files("IN.i420 and OUT.i420")?;
+    let outputs = Outputs::named(&words, &input, &output)?;
     let size = Size::new(width, height);
     let (bytes, count) = read_frames(&input, &size)?;
     let frames = (0..count).map(|g| size.frame(g)).collect::<Option<Vec<Frame>>>().ok_or_else(|| too_far(&input))?;
@@ -26,21 +30,47 @@ pub fn run(words: &[String]) -> Result<(), Failure> {
         weights: zeros(samples, "total weights")?,
     };
     let others = count.saturating_sub(1);
-    eprintln!("denoise: {count} frames of {samples} samples: blending {others} others into frame {centre}");
+    note(&format!("denoise: {count} frames of {samples} samples: blending {others} others into frame {centre}"));
     let built = model::build(&bytes, &frames, centre as usize, strength, &mut filled)?;
-    write(&output, &filled.output)?;
     let cropped = strength == 0 || others == 0;
-    for (option, numbers) in [("--sums", &filled.sums), ("--weights", &filled.weights)] {
-        if let Some(path) = words.path(option) {
-            write_numbers(&path, if cropped { &[] } else { numbers })?;
-        }
-    }
     if cropped {
-        eprintln!("denoise: the centre is only cropped: there are no sums and no weights");
+        filled.sums.clear();
+        filled.weights.clear();
+    }
+    outputs.write(&filled)?;
+    if cropped {
+        note("denoise: the centre is only cropped: there are no sums and no weights");
     }
     let blocks = u64::from(width.div_ceil(16)) * u64::from(height.div_ceil(16)) * others;
-    eprintln!("denoise: {} of {blocks} blocks accepted; {} written", built.accepted, output.display());
+    note(&format!("denoise: {} of {blocks} blocks accepted; {} written", built.accepted, output.display()));
     Ok(())
+}
+
+// Where the picture goes, and its sums and weights where they are asked for.
+struct Outputs {
+    picture: Named,
+    sums: Option<Named>,
+    weights: Option<Named>,
+}
+
+impl Outputs {
+    // Each is a file of its own, and none is the input.
+    fn named(words: &Words, input: &Path, output: &Path) -> Result<Outputs, Failure> {
+        let option = |name| words.path(name).map(|path| Named::output(name, &path)).transpose();
+        let picture = Named::output("OUT.i420", output)?;
+        let outputs = Outputs { picture, sums: option("--sums")?, weights: option("--weights")? };
+        let Outputs { picture, sums, weights } = &outputs;
+        let all = [Some(picture), sums.as_ref(), weights.as_ref()];
+        apart(&[&Named::input("IN.i420", input)?], &all.into_iter().flatten().collect::<Vec<_>>())?;
+        Ok(outputs)
+    }
+
+    fn write(&self, filled: &Filled) -> Result<(), Failure> {
+        let mut all = vec![(&self.picture, Content::Bytes(&filled.output))];
+        all.extend(self.sums.iter().map(|sums| (sums, Content::Numbers(&filled.sums))));
+        all.extend(self.weights.iter().map(|weights| (weights, Content::Numbers(&filled.weights))));
+        outputs::write(&all)
+    }
 }
 
 // A packed picture's size, in samples.

@@ -9,6 +9,8 @@ pub enum Failure {
     Files(String),
     /// The model refuses.
     Refused(String),
+    /// The reader of standard output has closed it.
+    Closed,
 }
 
 impl Failure {
@@ -18,14 +20,17 @@ impl Failure {
 
     pub fn status(&self) -> u8 {
         match self {
+            Failure::Closed => 0,
             Failure::Refused(_) => 1,
             Failure::Usage(_) | Failure::Files(_) => 2,
         }
     }
 
-    pub fn said(&self) -> &str {
+    /// What is said of it; of a closed output, nothing.
+    pub fn said(&self) -> Option<&str> {
         match self {
-            Failure::Usage(said) | Failure::Files(said) | Failure::Refused(said) => said,
+            Failure::Usage(said) | Failure::Files(said) | Failure::Refused(said) => Some(said),
+            Failure::Closed => None,
         }
     }
 }

@@ -1,8 +1,8 @@
-//! Reading and writing whole files, with room asked for first.
+//! Reading whole files, with room asked for first.
 
 use crate::failure::Failure;
 use std::fs::File;
-use std::io::{BufWriter, Read, Write};
+use std::io::Read;
 use std::path::Path;
 
 /// An empty vector with room for so many entries.
@@ -35,18 +35,4 @@ pub fn append(file: &mut File, path: &Path, bytes: u64, to: &mut Vec<u8>) -> Res
         return Ok(());
     }
     Err(Failure::Files(format!("{}: it ended {} bytes early while it was read", path.display(), bytes - read as u64)))
-}
-
-pub fn write(path: &Path, bytes: &[u8]) -> Result<(), Failure> {
-    std::fs::write(path, bytes).map_err(|cause| Failure::of_file("written", path, cause))
-}
-
-/// Numbers of 32 bits, least byte first.
-pub fn write_numbers(path: &Path, numbers: &[u32]) -> Result<(), Failure> {
-    let written = || {
-        let mut file = BufWriter::new(File::create(path)?);
-        numbers.iter().try_for_each(|number| file.write_all(&number.to_le_bytes()))?;
-        file.flush()
-    };
-    written().map_err(|cause| Failure::of_file("written", path, cause))
 }

@@ -4,11 +4,15 @@ mod denoise;
 mod failure;
 mod files;
 mod model;
+mod names;
+mod outputs;
 mod progress;
+mod say;
 mod search;
 mod words;
 
 use failure::Failure;
+use say::note;
 use std::process::ExitCode;
 
 const HELP: &str = "\
@@ -30,8 +34,22 @@ vp8model: a proved model of a VP8 encoder's picture pre-filter and luma motion s
     are rows and columns in quarter pixels. The diamond begins at (0, 0) and makes at most N rounds (default
     4294967295). Macroblocks past the right and bottom edge repeat the source's edge samples, as the reference does.
 
-Exit status: 0 done; 1 the model refuses, with document 01's number and line; 2 the words, a file or memory.
+  vp8model --help       prints this
+  vp8model --version    prints the commit that the program was built from, and what `rt version` said at that time
+
+Each output must be a file of its own: one that is an input or another output, by another name or a link too, is an
+error before anything is read. Only plain files are told apart so: a device or a pipe, as /dev/null, may be given more
+than once. Outputs replace what stands there only when all of them are whole; an error or a refusal leaves it as it was.
+
+Exit status: 0 done, or the reader of the output has closed it; 1 the model refuses, with document 01's number and line;
+2 the words, a file or memory.
 ";
+
+// The lines that host/identity wrote when host/build built this; cargo alone does not know them.
+const VERSION: &str = match option_env!("VP8MODEL_IDENTITY") {
+    Some(lines) => lines,
+    None => "vp8model, commit unknown\nrt version: unknown",
+};
 
 fn main() -> ExitCode {
     let words = std::env::args_os().skip(1).map(|word| word.into_string());
@@ -39,9 +57,11 @@ fn main() -> ExitCode {
     match words.map_err(|word| Failure::Usage(format!("{word:?} is not UTF-8"))).and_then(|words| run(&words)) {
         Ok(()) => ExitCode::SUCCESS,
         Err(failure) => {
-            eprintln!("vp8model: {}", failure.said());
+            if let Some(said) = failure.said() {
+                note(&format!("vp8model: {said}"));
+            }
             if let Failure::Usage(_) = failure {
-                eprintln!("vp8model: see vp8model --help");
+                note("vp8model: see vp8model --help");
             }
             ExitCode::from(failure.status())
         }
@@ -49,9 +69,12 @@ fn main() -> ExitCode {
 }
 
 fn run(words: &[String]) -> Result<(), Failure> {
-    if words.iter().any(|word| word == "--help") {
-        print!("{HELP}");
-        return Ok(());
+    let asked = |option: &str| words.iter().any(|word| word == option);
+    if asked("--help") {
+        return say::text(HELP);
+    }
+    if asked("--version") {
+        return say::text(&format!("{VERSION}\n"));
     }
     match words.first().map(String::as_str) {
         Some("denoise") => denoise::run(&words[1..]),

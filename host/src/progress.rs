@@ -1,5 +1,6 @@
 //! Lines on standard error about long work: one a second, and one at the end.
 
+use crate::say::note;
 use std::time::{Duration, Instant};
 
 pub struct Progress {
@@ -17,7 +18,7 @@ impl Progress {
     pub fn at(&mut self, done: u64) {
         if done == self.all || self.last.elapsed() >= Duration::from_secs(1) {
             self.last = Instant::now();
-            eprintln!("{}: {done} of {} {}", self.command, self.all, self.what);
+            note(&format!("{}: {done} of {} {}", self.command, self.all, self.what));
         }
     }
 }

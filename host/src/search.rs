@@ -3,9 +3,10 @@
 use crate::failure::Failure;
 use crate::files::{append, opened, room};
 use crate::model::{self, Place, Reference};
+use crate::names::{Named, apart};
 use crate::progress::Progress;
+use crate::say;
 use crate::words::Words;
-use std::io::Write;
 use std::path::Path;
 
 const HEADER: &str = "col row | diamond: row col sad sads rounds | half: row col sad | quarter: row col sad";
@@ -15,6 +16,8 @@ pub fn run(words: &[String]) -> Result<(), Failure> {
     let (width, height): (u32, u32) = (words.number("--width", u32::MAX)?, words.number("--height", u32::MAX)?);
     let limit = words.optional("--limit", u32::MAX)?.unwrap_or(u32::MAX);
     let [reference, source] = words.files("REFERENCE.y and SOURCE.y")?;
+    let inputs = [Named::input("REFERENCE.y", &reference)?, Named::input("SOURCE.y", &source)?];
+    apart(&inputs.each_ref(), &[&Named::standard_output()])?;
     let samples = u64::from(width) * u64::from(height);
     let (plane, moved) = (read_plane(&reference, samples)?, read_plane(&source, samples)?);
     let (width, height) = (width as usize, height as usize);
@@ -28,8 +31,7 @@ pub fn run(words: &[String]) -> Result<(), Failure> {
         for col in 0..columns {
             lines += &searched(reference, source, (col, row), limit)?;
         }
-        let cause = std::io::stdout().write_all(lines.as_bytes()).err();
-        cause.map_or(Ok(()), |cause| Err(Failure::of_file("written", Path::new("standard output"), cause)))?;
+        say::text(&lines)?;
         progress.at(row as u64 + 1);
     }
     Ok(())
