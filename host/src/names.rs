@@ -1,32 +1,35 @@
 //! Which file a name stands for, and that each output is a file of its own.
 //!
-//! Links are followed. Two names stand for one file where both exist with one device and inode, or where neither does
-//! and a file made at each would get one name in one folder. Only plain files are told apart: a device or a pipe may be
-//! given for several outputs and gets them one after the other.
+//! Links are followed. Two names stand for one file where both exist with one device and inode, or where neither exists
+//! and a file made at each would get one name in one folder. A character device, as /dev/null, keeps nothing that could
+//! be lost: it may be given for several outputs and gets them one after the other.
 
 use crate::failure::Failure;
+use crate::say::standard_output;
 use std::ffi::OsStr;
-use std::fs::{File, Metadata, OpenOptions};
+use std::fs::{Metadata, OpenOptions};
 use std::io::{self, ErrorKind};
-use std::os::fd::AsFd;
-use std::os::unix::fs::MetadataExt;
+use std::os::unix::fs::{FileTypeExt, MetadataExt};
 use std::path::{Path, PathBuf};
 
-/// What a name stands for.
+/// What a name stands for, and what is known of it.
 pub enum Place {
-    /// A plain file: its path without links, and what is known of it.
-    Plain(PathBuf, Metadata),
+    /// A plain file.
+    Plain(Metadata),
     /// No file yet: the path without links of the one that would be made, and what is known of its folder.
     Free(PathBuf, Metadata),
+    /// What standard output goes to.
+    Standard(Metadata),
     /// A device, a pipe or a folder.
-    Other,
+    Other(Metadata),
 }
 
 impl Place {
     fn of(name: &Path) -> io::Result<Place> {
         match name.metadata() {
-            Ok(about) if about.is_file() => Ok(Place::Plain(name.canonicalize()?, about)),
-            Ok(_) => Ok(Place::Other),
+            Ok(about) if is_standard_output(&about) => Ok(Place::Standard(about)),
+            Ok(about) if about.is_file() => Ok(Place::Plain(about)),
+            Ok(about) => Ok(Place::Other(about)),
             Err(cause) if cause.kind() == ErrorKind::NotFound => Place::free(name, cause),
             Err(cause) => Err(cause),
         }
@@ -44,23 +47,20 @@ impl Place {
         }
     }
 
-    /// The file to be made or replaced, and what is known of one that stands there.
-    pub fn file(&self) -> Option<(&Path, Option<&Metadata>)> {
-        match self {
-            Place::Plain(path, about) => Some((path, Some(about))),
-            Place::Free(path, _) => Some((path, None)),
-            Place::Other => None,
-        }
-    }
-
     // Equal exactly where two names stand for one file.
     fn identity(&self) -> Option<(u64, u64, Option<&OsStr>)> {
         match self {
-            Place::Plain(_, about) => Some((about.dev(), about.ino(), None)),
             Place::Free(path, folder) => Some((folder.dev(), folder.ino(), path.file_name())),
-            Place::Other => None,
+            Place::Plain(about) | Place::Standard(about) | Place::Other(about) => {
+                (!about.file_type().is_char_device()).then(|| (about.dev(), about.ino(), None))
+            }
         }
     }
+}
+
+fn is_standard_output(about: &Metadata) -> bool {
+    let it = standard_output().and_then(|stream| stream.metadata());
+    it.is_ok_and(|it| (it.dev(), it.ino()) == (about.dev(), about.ino()))
 }
 
 // The name's last part; a name that ends in a slash, in "." or in ".." is a folder's and has none.
@@ -87,20 +87,17 @@ impl Named {
     pub fn output(role: &'static str, name: &Path) -> Result<Named, Failure> {
         let unwritten = |cause| Failure::of_file("written", name, cause);
         let place = Place::of(name).map_err(unwritten)?;
-        if matches!(place, Place::Plain(..)) || name.is_dir() {
+        if matches!(place, Place::Plain(_)) || name.is_dir() {
             OpenOptions::new().write(true).open(name).map_err(unwritten)?;
         }
         Ok(Named { role, name: name.to_path_buf(), place })
     }
 
-    pub fn standard_output() -> Named {
-        let about = io::stdout().as_fd().try_clone_to_owned().and_then(|stream| File::from(stream).metadata());
+    pub fn standard_output() -> Result<Named, Failure> {
         let name = PathBuf::from("standard output");
-        let place = match about {
-            Ok(about) if about.is_file() => Place::Plain(name.clone(), about),
-            _ => Place::Other,
-        };
-        Named { role: "output", name, place }
+        let about = standard_output().and_then(|stream| stream.metadata());
+        let about = about.map_err(|cause| Failure::of_file("written", &name, cause))?;
+        Ok(Named { role: "the output", name, place: Place::Standard(about) })
     }
 }
 

@@ -1,8 +1,9 @@
-//! Writes outputs, whole or not at all: each to a new file in its folder first, and all of them to their names when the
-//! last is whole. An output that exists and is no plain file, as a device or a pipe, is written as it stands.
+//! Writes outputs, whole or not at all: each plain file to a new one in its folder first, and all of these to their
+//! names when the last is whole. Standard output, a device or a pipe is written as it stands.
 
 use crate::failure::Failure;
-use crate::names::Named;
+use crate::names::{Named, Place};
+use crate::say::standard_output;
 use std::fs::{File, Metadata, OpenOptions};
 use std::io::{self, BufWriter, ErrorKind, Write};
 use std::path::{Path, PathBuf};
@@ -28,33 +29,44 @@ impl Content<'_> {
     }
 }
 
-/// Writes them all. Where one cannot be written, every file stays as it was.
+/// Writes them all. Where one cannot be written, every plain file stays as it was.
 pub fn write(outputs: &[(&Named, Content)]) -> Result<(), Failure> {
     let mut parts = Vec::new();
     for (named, content) in outputs {
-        if let Some((path, about)) = named.place.file() {
-            parts.push((named, written(named, Part::new(path, about, *content))?));
-        }
+        parts.extend(done(named, part(named, *content))?.map(|part| (named, part)));
     }
     for (named, content) in outputs {
-        if named.place.file().is_none() {
-            written(named, write_directly(&named.name, *content))?;
-        }
+        done(named, write_directly(named, *content))?;
     }
     for (named, part) in parts {
-        written(named, part.rename())?;
+        done(named, part.rename())?;
     }
     Ok(())
 }
 
-fn written<T>(named: &Named, done: io::Result<T>) -> Result<T, Failure> {
-    done.map_err(|cause| Failure::of_file("written", &named.name, cause))
+fn done<T>(named: &Named, result: io::Result<T>) -> Result<T, Failure> {
+    result.map_err(|cause| Failure::of_file("written", &named.name, cause))
+}
+
+fn part(named: &Named, content: Content) -> io::Result<Option<Part>> {
+    match &named.place {
+        Place::Plain(about) => Part::new(&named.name.canonicalize()?, Some(about), content).map(Some),
+        Place::Free(path, _) => Part::new(path, None, content).map(Some),
+        Place::Standard(_) | Place::Other(_) => Ok(None),
+    }
 }
 
 // A reader that closes a pipe has what it wanted.
-fn write_directly(name: &Path, content: Content) -> io::Result<()> {
-    let done = OpenOptions::new().write(true).open(name).and_then(|file| content.write(&file));
-    done.or_else(|cause| if cause.kind() == ErrorKind::BrokenPipe { Ok(()) } else { Err(cause) })
+fn write_directly(named: &Named, content: Content) -> io::Result<()> {
+    let file = match &named.place {
+        Place::Standard(_) => standard_output(),
+        Place::Other(_) => OpenOptions::new().write(true).open(&named.name),
+        Place::Plain(_) | Place::Free(..) => return Ok(()),
+    };
+    match file.and_then(|file| content.write(&file)) {
+        Err(cause) if cause.kind() == ErrorKind::BrokenPipe => Ok(()),
+        other => other,
+    }
 }
 
 // A whole file that waits for its name. Where it never gets it, the file is removed.
@@ -65,7 +77,7 @@ struct Part {
 }
 
 impl Part {
-    // A file that is replaced leaves its permission bits.
+    // A file that is replaced hands on its permission bits.
     fn new(to: &Path, replaced: Option<&Metadata>, content: Content) -> io::Result<Part> {
         let (path, file) = created_beside(to)?;
         let part = Part { path, to: to.to_path_buf(), renamed: false };

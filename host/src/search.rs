@@ -17,7 +17,7 @@ pub fn run(words: &[String]) -> Result<(), Failure> {
     let limit = words.optional("--limit", u32::MAX)?.unwrap_or(u32::MAX);
     let [reference, source] = words.files("REFERENCE.y and SOURCE.y")?;
     let inputs = [Named::input("REFERENCE.y", &reference)?, Named::input("SOURCE.y", &source)?];
-    apart(&inputs.each_ref(), &[&Named::standard_output()])?;
+    apart(&inputs.each_ref(), &[&Named::standard_output()?])?;
     let samples = u64::from(width) * u64::from(height);
     let (plane, moved) = (read_plane(&reference, samples)?, read_plane(&source, samples)?);
     let (width, height) = (width as usize, height as usize);
