@@ -35,14 +35,15 @@ vp8model: a proved model of a VP8 encoder's picture pre-filter and luma motion s
     4294967295). Macroblocks past the right and bottom edge repeat the source's edge samples, as the reference does.
 
   vp8model --help       prints this
-  vp8model --version    prints the commit that the program was built from, and what `rt version` said at that time
+  vp8model --version    prints the commit that the program was built from and what `rt version` said then
 
-Each output must be a file of its own: one that is an input or another output, by another name or a link too, is an
-error before anything is read. Only plain files are told apart so: a device or a pipe, as /dev/null, may be given more
-than once. Outputs replace what stands there only when all of them are whole; an error or a refusal leaves it as it was.
+Each output must be a file of its own. One that is an input or another output, by whatever name or link, is an error
+before anything is read; only a character device, as /dev/null, may be given for several. Outputs are written beside
+their names and renamed when all are whole: a refusal or an error leaves what stood there. /dev/stdout, a device or a
+pipe is written as it stands.
 
-Exit status: 0 done, or the reader of the output has closed it; 1 the model refuses, with document 01's number and line;
-2 the words, a file or memory.
+Exit status: 0 done, or the reader of the output closed it; 1 the model refuses, with document 01's number and line; 2
+the words, a file or memory.
 ";
 
 // The lines that host/identity wrote when host/build built this; cargo alone does not know them.
