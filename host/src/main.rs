@@ -42,8 +42,8 @@ before anything is read; only a character device, as /dev/null, may be given for
 their names and renamed when all are whole: a refusal or an error leaves what stood there. /dev/stdout, a device or a
 pipe is written as it stands.
 
-Exit status: 0 done, or the reader of the output closed it; 1 the model refuses, with document 01's number and line; 2
-the words, a file or memory.
+Exit status: 0 done, or the reader of the output closed it; 1 the model refuses, with document 01's number and line;
+2 the words, a file or memory.
 ";
 
 // The lines that host/identity wrote when host/build built this; cargo alone does not know them.
