@@ -36,7 +36,7 @@ pub extern "C" fn vp8model_mb_luma_sad_at_whole_mv(
         (costOf (lumaPlane (now (plane .entry)) stride width height) «mb_col» «mb_row» (now («src_y» .entry)) (mvOf «mv_row» «mv_col»)))
         ⌝ }
 {
-    let mv = Mv {
+    let whole_mv = Mv {
         row: mv_row,
         col: mv_col,
     };
@@ -48,7 +48,7 @@ pub extern "C" fn vp8model_mb_luma_sad_at_whole_mv(
         mb_col,
         mb_row,
         src_y,
-        mv,
+        whole_mv,
     );
     numbers::sad_numbers(answer)
 }
@@ -144,7 +144,7 @@ pub extern "C" fn vp8model_half_pixel_refine_luma(
         (refine (costOf (lumaPlane (now (plane .entry)) stride width height) «mb_col» «mb_row» (now («src_y» .entry))) 2 (mvOf «center_row» «center_col»)))
         ⌝ }
 {
-    let center = Mv {
+    let whole_pixel_center = Mv {
         row: center_row,
         col: center_col,
     };
@@ -156,7 +156,7 @@ pub extern "C" fn vp8model_half_pixel_refine_luma(
         mb_col,
         mb_row,
         src_y,
-        center,
+        whole_pixel_center,
     );
     numbers::search_numbers(answer)
 }
@@ -179,7 +179,7 @@ pub extern "C" fn vp8model_quarter_pixel_refine_luma(
         (refine (costOf (lumaPlane (now (plane .entry)) stride width height) «mb_col» «mb_row» (now («src_y» .entry))) 1 (mvOf «center_row» «center_col»)))
         ⌝ }
 {
-    let center = Mv {
+    let half_pixel_center = Mv {
         row: center_row,
         col: center_col,
     };
@@ -191,7 +191,7 @@ pub extern "C" fn vp8model_quarter_pixel_refine_luma(
         mb_col,
         mb_row,
         src_y,
-        center,
+        half_pixel_center,
     );
     numbers::search_numbers(answer)
 }
