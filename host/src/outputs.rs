@@ -29,7 +29,8 @@ impl Content<'_> {
     }
 }
 
-/// Writes them all. Where one cannot be written, every plain file stays as it was.
+/// Writes them all. Where one cannot be written, every plain file stays as it was; where one cannot be renamed, those
+/// before it are new.
 pub fn write(outputs: &[(&Named, Content)]) -> Result<(), Failure> {
     let mut parts = Vec::new();
     for (named, content) in outputs {

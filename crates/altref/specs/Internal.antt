@@ -38,7 +38,7 @@ filled fs (suc i) = putFrame (filled fs i) i (getD fs i zeroFrame)
 abbrev pub takenOf : ℕ → ℕ
 takenOf count = cond (leb count maxFrames) count 0
 
--- xs is the numbers of `count` frames, and where these are not too many the array begins with them
+-- xs is as long as the numbers of `count` frames, and where these are not too many the array begins with xs
 abbrev pub Begins : List ℕ → List ℕ → ℕ → Type 0
 Begins xs numbers count = (length xs ≡ count * numbersPerFrame) × (count ≤ maxFrames → take (count * numbersPerFrame) numbers ≡ xs)
 

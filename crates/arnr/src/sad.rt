@@ -288,7 +288,7 @@ fn placed_sad(
     )
 }
 
-// The SAD of a block of 16 by 16: in bounds, row by row of 16; else by samples.
+// The SAD of a block of 16 by 16: in bounds, two rows a turn; else row by row, each sample cut to the plane.
 fn square_sad(
     bytes: &[u8],
     p: PlaneNumbers,

@@ -12,7 +12,6 @@ use lib.ListN.{length, getD}
 use Rattle.laws.specs.Signed.{above, below}
 use Rattle.laws.proofs.Signed.{quot}
 use Rattle.laws.specs.Outcome.{accepted}
-use Rattle.laws.proofs.Best.{among-least, among-one}
 use Rattle.laws.proofs.Each.{Each}
 use Rattle.prediction.specs.Samples.{distance}
 use Rattle.weights.specs.Weights.{weightOf}
@@ -24,7 +23,7 @@ use Rattle.window.specs.Refusals.{checks}
 use Rattle.denoiser.specs.declared.Block.{Block}
 use Rattle.denoiser.specs.declared.Displacement.{Displacement}
 use Rattle.denoiser.specs.Grid.{gridBlock, gridSide, blockIn, unitOf}
-use Rattle.denoiser.specs.Search.{still, neighboursOf, stepped, triedBy, measuredBy, blockSearch, displacementIn}
+use Rattle.denoiser.specs.Search.{measuredBy, blockSearch, displacementIn}
 use Rattle.denoiser.specs.Internal.{stepBest, Reach, Short}
 use Rattle.denoiser.specs.Window.{Picture, Scene, gate, centreAt, shareOf, totalAt, sumAt, sadAccepted, blockAccepted, displacedAt, arnrRule}
 use Rattle.denoiser.specs.Build.{BuildInput, givenOf, sceneOf, windowOf}
@@ -33,7 +32,7 @@ use Rattle.denoiser.proofs.Blends.{window-fair, window-byte, window-few
 use Rattle.denoiser.proofs.Cover.{grid-lies, within-grid}
 use Rattle.denoiser.proofs.Demands.{total-most, sum-most}
 use Rattle.denoiser.proofs.Planes.{block-fits}
-use Rattle.denoiser.proofs.Searches.{measured-short}
+use Rattle.denoiser.proofs.Searches.{measured-short, measured-count, search-least, search-one}
 
 -- (x, y) is in the block
 pub record Covers (b : Block) (x y : ℕ) : Type 0 where
@@ -71,10 +70,9 @@ one-block (suc k) w h x y hx hy =
       only = λ i j c. (omega (arith, c .top, c .bottom), omega (arith, c .left, c .right));
     }
 
--- one search makes 33 comparisons
+-- one search makes 33 comparisons: so many are measured, and the search is the best of these
 pub comparisons : (cost : Displacement → ℕ) → length (measuredBy cost) ≡ 33
-unfolding measuredBy triedBy stepped neighboursOf
-comparisons cost = refl
+comparisons cost = measured-count cost
 
 -- the test against 15 never bites: every displacement that is measured is within 15
 pub within-15 : (cost : Displacement → ℕ) → Each Short (measuredBy cost)
@@ -82,13 +80,11 @@ within-15 cost = measured-short cost
 
 -- the search's displacement has the least cost of all that are measured
 pub least : (cost : Displacement → ℕ) → Each (λ d. cost (blockSearch cost) ≤ cost d) (measuredBy cost)
-unfolding blockSearch measuredBy
-least cost = among-least cost still (triedBy cost)
+least cost = search-least cost
 
 -- and it is one of them: what holds of all that are measured holds of it
 pub answer-measured : (cost : Displacement → ℕ) (P : Displacement → Type 0) → Each P (measuredBy cost) → P (blockSearch cost)
-unfolding blockSearch measuredBy
-answer-measured cost P e = among-one cost P still (triedBy cost) e
+answer-measured cost P e = search-one cost P e
 
 -- in an accepted call a total weight is at most 16,384 and a sum at most 4,177,920
 module _ (b : BuildInput) (s : Size) (e : checks (givenOf b) ≡ accepted s) (byte : (i : ℕ) → getD (b .request .bytes) i 0 < 256) (k x y : ℕ) where

@@ -1,8 +1,8 @@
 -- What the private contracts of the crate `arnr` speak of: parts of the lent slices, and what is added to them. No public contract uses these. Assumes nothing.
 use mathlib.Core.Path.{_≡_}
 use mathlib.Core.Bool.{Bool, true, false, cond}
-use mathlib.Core.List.{List, [], _∷_}
-use Prim.Native.Nat.{ℕ, zero, suc, _+_, _-_, _*_, _/_, _^_, _≤_, _<_}
+use mathlib.Core.List.{List}
+use Prim.Native.Nat.{ℕ, _+_, _*_, _^_, _≤_, _<_}
 use lib.Dec.{leb, ltb}
 use lib.IntN.{ℤ, pos}
 use lib.ListN.{length, getD}
@@ -13,13 +13,13 @@ use Rattle.prediction.specs.Plane.{Samples, Plane, sampleAt, bytesNeeded}
 use Rattle.window.specs.declared.Frame.{Frame}
 use Rattle.window.specs.Layout.{sideOf, offsetOf, packedSize, placeOf}
 use Rattle.weights.specs.Blend.{denoised}
-use Rattle.window.specs.Frames.{startOf, strideOf, planeOf, frameAt, frameCount}
+use Rattle.window.specs.Frames.{startOf, strideOf, frameAt, frameCount}
 use Rattle.denoiser.specs.declared.Block.{Block}
 use Rattle.denoiser.specs.declared.Displacement.{Displacement}
 use Rattle.denoiser.specs.declared.PlaneNumbers.{PlaneNumbers}
 use Rattle.denoiser.specs.declared.Motion.{Motion}
 use Rattle.denoiser.specs.Search.{sadOf, displacedBy, neighbourOf}
-use Rattle.denoiser.specs.Window.{Picture, Scene, Rule, gate, shareOf, sumAt, totalAt, denoisedAt, acceptedBlocks, blockAccepted, displacedAt, arnrRule}
+use Rattle.denoiser.specs.Window.{Picture, Scene, Rule, shareOf, sumAt, totalAt, denoisedAt, acceptedBlocks, blockAccepted, displacedAt, arnrRule}
 use Rattle.denoiser.specs.Demand.{Held}
 use Rattle.denoiser.specs.Build.{Request, sceneOf, windowOf, cropped, packed, filled, builtOf, samplesOf}
 
@@ -73,7 +73,7 @@ pub record Lies (b : Block) (columns rows : ℕ) : Type 0 where
   pub wide : b .x + b .columns ≤ columns
   pub high : b .y + b .rows ≤ rows
 
--- the three lent slices hold n entries
+-- each of the three lent slices holds at least n entries
 pub record Lent (n : ℕ) (out sums weights : List ℕ) : Type 0 where
   pub in-out : n ≤ length out
   pub in-sums : n ≤ length sums
@@ -200,7 +200,7 @@ pub record Ready (sum total : ℕ) : Type 0 where
 pub record Shows (w h : ℕ) (f : ℕ → ℕ → ℕ → ℕ) (l : List ℕ) : Type 0 where
   pub at : (k x y : ℕ) → k < 3 → x < sideOf k w → y < sideOf k h → getD l (placeOf w h k x y) 0 ≡ f k x y
 
--- the three lent slices have n entries
+-- each of the three lent slices has exactly n entries
 pub record Exact (n : ℕ) (out sums weights : List ℕ) : Type 0 where
   pub of-out : length out ≡ n
   pub of-sums : length sums ≡ n

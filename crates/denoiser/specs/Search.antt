@@ -4,7 +4,7 @@ use Prim.Native.Nat.{ℕ, zero, suc, _+_, _/_, _%_}
 use lib.IntN.{ℤ, pos}
 use lib.Signed.{quotZ}
 use Rattle.laws.specs.Sums.{sumBelow}
-use Rattle.laws.specs.Best.{bestAmong}
+use Rattle.laws.specs.Best.{bestIn}
 use Rattle.laws.specs.Square.{squarePlace, stepTo}
 use Rattle.prediction.specs.Samples.{distance}
 use Rattle.prediction.specs.Plane.{Samples, movedBy}
@@ -14,7 +14,7 @@ use Rattle.denoiser.specs.declared.Displacement.{Displacement}
 -- the sum of absolute differences (SAD) of two sample functions over a rectangle
 unfoldable pub sadOf : Samples → Samples → Block → ℕ
 sadOf a b r =
-    sumBelow (λ j. sumBelow (λ i. distance (a (pos (r .x + i)) (pos (r .y + j))) (b (pos (r .x + i)) (pos (r .y + j)))) (r .columns)) (r .rows)
+    sumBelow (λ i. sumBelow (λ j. distance (a (pos (r .x + j)) (pos (r .y + i))) (b (pos (r .x + j)) (pos (r .y + i)))) (r .columns)) (r .rows)
 
 -- the samples moved by a displacement: at (x, y) stands the sample of (x + dx, y + dy)
 abbrev pub displacedBy : Displacement → Samples → Samples
@@ -30,20 +30,17 @@ neighbourOf d step k = record { dx = stepTo (d .dx) (squarePlace k % 3) step; dy
 unfoldable pub neighboursOf : Displacement → ℕ → List Displacement
 neighboursOf d step = map (neighbourOf d step) (0 ∷ 1 ∷ 2 ∷ 3 ∷ 4 ∷ 5 ∷ 6 ∷ 7 ∷ [])
 
--- one step, after some displacements were tried: the eight neighbours of the best at the beginning of the step
+-- one step, after some displacements were measured: the eight neighbours of the best at the beginning of the step are measured too
 unfoldable pub stepped : (Displacement → ℕ) → ℕ → List Displacement → List Displacement
-stepped cost step tried = tried ++ neighboursOf (bestAmong cost still tried) step
+stepped cost step measured = measured ++ neighboursOf (bestIn cost still measured) step
 
--- the displacements that one search tries: steps 8, 4, 2, 1; and all that it measures, (0, 0) first
-unfoldable pub triedBy : (Displacement → ℕ) → List Displacement
-triedBy cost = stepped cost 1 (stepped cost 2 (stepped cost 4 (stepped cost 8 [])))
-
+-- the displacements that one search measures: (0, 0), then those of the steps 8, 4, 2, 1
 unfoldable pub measuredBy : (Displacement → ℕ) → List Displacement
-measuredBy cost = still ∷ triedBy cost
+measuredBy cost = stepped cost 1 (stepped cost 2 (stepped cost 4 (stepped cost 8 (still ∷ []))))
 
--- the block search: from (0, 0), only a strictly smaller cost replaces the best
+-- the block search: the best of all that it measures; only a strictly smaller cost replaces the best
 unfoldable pub blockSearch : (Displacement → ℕ) → Displacement
-blockSearch cost = bestAmong cost still (triedBy cost)
+blockSearch cost = bestIn cost still (measuredBy cost)
 
 -- the chroma displacement is the luma displacement halved toward zero
 abbrev pub halved : ℤ → ℤ

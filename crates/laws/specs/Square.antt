@@ -8,6 +8,6 @@ use lib.IntN.{ℤ, pos, _+ℤ_, _-ℤ_}
 abbrev pub squarePlace : ℕ → ℕ
 squarePlace k = cond (ltb k 4) k (k + 1)
 
--- a component less one step, and as many steps more as the row or column of the place says
+-- a component less one step and plus p steps, p being the row or column of a place
 abbrev pub stepTo : ℤ → ℕ → ℕ → ℤ
-stepTo v place step = v +ℤ pos (place * step) -ℤ pos step
+stepTo v p step = v +ℤ pos (p * step) -ℤ pos step

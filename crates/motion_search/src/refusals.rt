@@ -46,7 +46,7 @@ fn magnitude(v: i16) -> u32
     v as u32
 }
 
-// A division by a literal is a mask.
+// Whether v is no multiple of n. A division by a literal is a mask.
 fn not_multiple(n: u32, v: i16) -> bool
     requires { ⌜ 0 < n ⌝ }
     ensures { λ r. ⌜ r ≡ notMultiple n v ⌝ }

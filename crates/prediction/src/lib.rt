@@ -1,4 +1,5 @@
-// The luma prediction of VP8: vectors, filters and fetches.
+// Vectors and samples; and, under specs/, the definitions of VP8's luma prediction. The filters' code stands in the crate `sixtap`, the
+// fetches' in `fetch`.
 pub mod inverse_transform;
 pub mod motion_comp;
 pub mod motion_vector;

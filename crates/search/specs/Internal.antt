@@ -1,4 +1,4 @@
--- What the private functions of `motion_search` ask of their callers. No public contract uses these definitions. Assumes nothing.
+-- What the private functions of `motion_search` ask and promise. No public contract uses these definitions. Assumes nothing.
 use mathlib.Core.Path.{_≡_}
 use mathlib.Core.Bool.{false}
 use mathlib.Core.List.{List}

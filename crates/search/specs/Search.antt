@@ -29,7 +29,7 @@ gridded v = record { row = onGrid (v .row); col = onGrid (v .col) }
 abbrev pub sameMv : Mv → Mv → Bool
 sameMv a b = eqZ (a .row) (b .row) && eqZ (a .col) (b .col)
 
--- the neighbour of v that is dr down and dc to the right, in quarter pixels
+-- the neighbour of v that is dr down and dc to the right, in quarter pixels, brought onto the grid as a centre is: clamped, then cut
 abbrev pub stepped : ℤ → ℤ → Mv → Mv
 stepped dr dc v = gridded (record { row = v .row +ℤ dr; col = v .col +ℤ dc })
 

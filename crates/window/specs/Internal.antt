@@ -1,5 +1,5 @@
--- What the private functions find, over one frame and over the numbers of all. No public contract uses these definitions; the law
--- `Restated` says that they are those of Refusals. Assumes nothing.
+-- What the private functions find, over one frame and over the numbers of all. No public contract uses these definitions;
+-- `restated` (proofs/Frames.antt) says that they are those of Refusals. Assumes nothing.
 use mathlib.Core.Bool.{Bool, not, _||_}
 use mathlib.Core.List.{List, []}
 use Prim.Native.Nat.{ℕ}

@@ -90,7 +90,7 @@ fn size_of(f: Frame) -> Size
     }
 }
 
-// 3: the frame's width or height is bad.
+// 3: the frame's width or height is 0 or above 16383.
 fn bad_size(f: Frame) -> bool
     ensures { λ r. ⌜ r ≡ (badSide (f .width) || badSide (f .height)) ⌝ }
 {
