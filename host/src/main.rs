@@ -39,8 +39,8 @@ vp8model: a proved model of a VP8 encoder's picture pre-filter and luma motion s
 
 Each output must be a file of its own. One that is an input or another output, by whatever name or link, is an error
 before anything is read; only a character device, as /dev/null, may be given for several. Outputs are written beside
-their names and renamed when all are whole: a refusal or a failed write leaves what stood there. /dev/stdout, a device or a
-pipe is written as it stands.
+their names and renamed when all are whole: a refusal or a failed write leaves what stood there. /dev/stdout, a device
+or a pipe is written as it stands.
 
 Exit status: 0 done, or the reader of the output closed it; 1 the model refuses, with document 01's number and line;
 2 the words, a file or memory.
