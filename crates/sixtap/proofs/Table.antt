@@ -34,10 +34,10 @@ abbrev wrong : List ℤ → ℕ
 wrong r = below (tap r 0) + above (tap r 1) + below (tap r 2) + below (tap r 3) + above (tap r 4) + below (tap r 5)
 
 abbrev more : List ℤ → ℕ
-more r = natAbs (tap r 0) + natAbs (tap r 2) + natAbs (tap r 3) + natAbs (tap r 5)
+more r = above (tap r 0) + above (tap r 2) + above (tap r 3) + above (tap r 5)
 
 abbrev less : List ℤ → ℕ
-less r = natAbs (tap r 1) + natAbs (tap r 4)
+less r = below (tap r 1) + below (tap r 4)
 
 signed : List ℤ → Bool
 signed r = leb (wrong r) 0
@@ -52,17 +52,17 @@ pub signs-right : (s : ℕ) → below (sixtap s 0) + above (sixtap s 1) + below 
 unfolding sixtap sixtapRows signed
 signs-right s = leb→le _ _ (at signed [] sixtapRows tt tt s)
 
-pub added-small : (s : ℕ) → natAbs (sixtap s 0) + natAbs (sixtap s 2) + natAbs (sixtap s 3) + natAbs (sixtap s 5) ≤ 160
+pub added-small : (s : ℕ) → above (sixtap s 0) + above (sixtap s 2) + above (sixtap s 3) + above (sixtap s 5) ≤ 160
 unfolding sixtap sixtapRows added
 added-small s = leb→le _ _ (at added [] sixtapRows tt tt s)
 
-pub taken-small : (s : ℕ) → natAbs (sixtap s 1) + natAbs (sixtap s 4) ≤ 32
+pub taken-small : (s : ℕ) → below (sixtap s 1) + below (sixtap s 4) ≤ 32
 unfolding sixtap sixtapRows taken
 taken-small s = leb→le _ _ (at taken [] sixtapRows tt tt s)
 
--- a number by its size and its sign
-pub by-size : (z : ℤ) (n : ℕ) → n ≡ natAbs z → below z ≡ 0 → z ≡ pos n
-by-size z n e h = same z (pos n) (omega (arith, self z))
+-- a number by its part above or below zero, the other being 0
+pub by-above : (z : ℤ) (n : ℕ) → n ≡ above z → below z ≡ 0 → z ≡ pos n
+by-above z n e h = same z (pos n) (omega arith)
 
-pub by-size-neg : (z : ℤ) (n : ℕ) → n ≡ natAbs z → above z ≡ 0 → z ≡ negℤ (pos n)
-by-size-neg z n e h = same z (negℤ (pos n)) (omega (arith, self z, neg (pos n)))
+pub by-below : (z : ℤ) (n : ℕ) → n ≡ below z → above z ≡ 0 → z ≡ negℤ (pos n)
+by-below z n e h = same z (negℤ (pos n)) (omega (arith, neg (pos n)))

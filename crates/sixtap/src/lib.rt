@@ -3,7 +3,7 @@ use prediction::inverse_transform::clamp255;
 ghost use mathlib.Core.Path.{_≡_};
 ghost use Prim.Native.Nat.{_+_, _-_, _*_, _/_, _≤_, _<_, min, max};
 ghost use lib.ListN.{length, getD};
-ghost use lib.IntN.{natAbs};
+ghost use Rattle.laws.specs.Signed.{above, below};
 ghost use Rattle.laws.specs.Outcome.{firstOf};
 ghost use Rattle.laws.specs.Tabulate.{tabulate};
 ghost use Rattle.laws.specs.Internal.{Filling};
@@ -34,12 +34,20 @@ pub(crate) struct Taps {
     pub f: u16,
 }
 
-// The size of a tap.
-fn size(t: i32) -> u16
-    requires { ⌜ natAbs t ≤ 128 ⌝ }
-    ensures { λ r. ⌜ r ≡ natAbs t ⌝ }
+// The size of a tap that is added, which is not negative.
+fn added_size(t: i32) -> u16
+    requires { ⌜ (above t ≤ 128) × (below t ≡ 0) ⌝ }
+    ensures { λ r. ⌜ r ≡ above t ⌝ }
 {
-    if t < 0 { (0 - t) as u16 } else { t as u16 }
+    t as u16
+}
+
+// The size of a tap that is taken away, which is not positive.
+fn taken_size(t: i32) -> u16
+    requires { ⌜ (below t ≤ 128) × (above t ≡ 0) ⌝ }
+    ensures { λ r. ⌜ r ≡ below t ⌝ }
+{
+    (0 - t) as u16
 }
 
 // The row of a selector.
@@ -48,12 +56,12 @@ fn row(s: usize) -> Taps
     ensures { λ r. ⌜ Row s r × Small r ⌝ }
 {
     let t = SIXTAP_FILTERS[s];
-    let a = size(t[0]);
-    let b = size(t[1]);
-    let c = size(t[2]);
-    let d = size(t[3]);
-    let e = size(t[4]);
-    let f = size(t[5]);
+    let a = added_size(t[0]);
+    let b = taken_size(t[1]);
+    let c = added_size(t[2]);
+    let d = added_size(t[3]);
+    let e = taken_size(t[4]);
+    let f = added_size(t[5]);
     Taps {
         a: a,
         b: b,

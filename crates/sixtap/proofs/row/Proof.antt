@@ -2,30 +2,37 @@ use native.Mathlib.Omega.{arith}
 use borrow.Author.Needs.{needs}
 use mathlib.Core.Path.{_≡_, _∙_, ap, subst, sym}
 use Prim.Native.Nat.{ℕ, _≤_}
-use lib.IntN.{ℤ, pos, natAbs}
+use lib.IntN.{ℤ}
 use mir.Syntax.{w32}
 use mir.Val.{toZ, ofZ}
 use mir.Facts.{toZ-ofZ}
+use Rattle.laws.specs.Signed.{above, below}
+use Rattle.laws.proofs.Signed.{self}
 use Rattle.prediction.specs.Filter.{sixtapRows, sixtap}
 use Rattle.sixtap.specs.Internal.{Row, Small}
 use Rattle.sixtap.specs.declared.Taps.{Taps}
-use Rattle.sixtap.proofs.Table.{tap-small, tap-fits, signs-right, added-small, taken-small, by-size, by-size-neg}
+use Rattle.sixtap.proofs.Table.{tap-small, tap-fits, signs-right, added-small, taken-small, by-above, by-below}
 use Rattle.sixtap.proofs.row.Statement.{statement}
 use Rattle.sixtap.proofs.row.Tie as tie
 
-asked : (s k : ℕ) → natAbs (toZ w32 (ofZ w32 (sixtap s k))) ≤ 128
-asked s k = subst (λ (z : ℤ). natAbs z ≤ 128) (sym (toZ-ofZ (tap-fits s k))) (tap-small s k)
+asked : (s k : ℕ) → below (sixtap s k) ≡ 0 → (above (toZ w32 (ofZ w32 (sixtap s k))) ≤ 128) × (below (toZ w32 (ofZ w32 (sixtap s k))) ≡ 0)
+asked s k h =
+    subst (λ (z : ℤ). (above z ≤ 128) × (below z ≡ 0)) (sym (toZ-ofZ (tap-fits s k))) (omega (arith, tap-small s k, self (sixtap s k)), h)
 
-made : (s : ℕ) (t : Taps) → t .a ≡ natAbs (sixtap s 0) → t .b ≡ natAbs (sixtap s 1) → t .c ≡ natAbs (sixtap s 2) → t .d ≡ natAbs (sixtap s 3) → t .e ≡ natAbs (sixtap s 4) → t .f ≡ natAbs (sixtap s 5) → Row s t × Small t
+asked-taken : (s k : ℕ) → above (sixtap s k) ≡ 0 → (below (toZ w32 (ofZ w32 (sixtap s k))) ≤ 128) × (above (toZ w32 (ofZ w32 (sixtap s k))) ≡ 0)
+asked-taken s k h =
+    subst (λ (z : ℤ). (below z ≤ 128) × (above z ≡ 0)) (sym (toZ-ofZ (tap-fits s k))) (omega (arith, tap-small s k, self (sixtap s k)), h)
+
+made : (s : ℕ) (t : Taps) → t .a ≡ above (sixtap s 0) → t .b ≡ below (sixtap s 1) → t .c ≡ above (sixtap s 2) → t .d ≡ above (sixtap s 3) → t .e ≡ below (sixtap s 4) → t .f ≡ above (sixtap s 5) → Row s t × Small t
 made s t a b d e f g =
     let h = signs-right s in (
       record {
-        a = by-size _ _ a (omega arith);
-        b = by-size-neg _ _ b (omega arith);
-        c = by-size _ _ d (omega arith);
-        d = by-size _ _ e (omega arith);
-        e = by-size-neg _ _ f (omega arith);
-        f = by-size _ _ g (omega arith);
+        a = by-above _ _ a (omega arith);
+        b = by-below _ _ b (omega arith);
+        c = by-above _ _ d (omega arith);
+        d = by-above _ _ e (omega arith);
+        e = by-below _ _ f (omega arith);
+        f = by-above _ _ g (omega arith);
       },
       record { more = omega (arith, added-small s); less = omega (arith, taken-small s) },
     )
@@ -36,58 +43,70 @@ mul-t c = search needs
 array-copy-out-t : tie.Need-array-copy-out-t
 array-copy-out-t c = search needs
 
-array-copy-out-size : tie.Need-array-copy-out-size
-array-copy-out-size c = search needs
+array-copy-out-added-size : tie.Need-array-copy-out-added-size
+array-copy-out-added-size c = search needs
 
-size-requires : tie.Need-size-requires
+added-size-requires : tie.Need-added-size-requires
 unfolding sixtapRows sixtap
-size-requires c κs = asked (c .before .before .args .s) 0
+added-size-requires c κs =
+    let s = c .before .before .args .s in
+    asked s 0 (omega (arith, signs-right s))
 
-array-copy-out-size-2 : tie.Need-array-copy-out-size-2
-array-copy-out-size-2 c = search needs
+array-copy-out-taken-size : tie.Need-array-copy-out-taken-size
+array-copy-out-taken-size c = search needs
 
-size-requires-2 : tie.Need-size-requires-2
+taken-size-requires : tie.Need-taken-size-requires
 unfolding sixtapRows sixtap
-size-requires-2 c κs = asked (c .before .before .before .before .args .s) 1
+taken-size-requires c κs =
+    let s = c .before .before .before .before .args .s in
+    asked-taken s 1 (omega (arith, signs-right s))
 
-array-copy-out-size-3 : tie.Need-array-copy-out-size-3
-array-copy-out-size-3 c = search needs
+array-copy-out-added-size-2 : tie.Need-array-copy-out-added-size-2
+array-copy-out-added-size-2 c = search needs
 
-size-requires-3 : tie.Need-size-requires-3
+added-size-requires-2 : tie.Need-added-size-requires-2
 unfolding sixtapRows sixtap
-size-requires-3 c κs = asked (c .before .before .before .before .before .before .args .s) 2
+added-size-requires-2 c κs =
+    let s = c .before .before .before .before .before .before .args .s in
+    asked s 2 (omega (arith, signs-right s))
 
-array-copy-out-size-4 : tie.Need-array-copy-out-size-4
-array-copy-out-size-4 c = search needs
+array-copy-out-added-size-3 : tie.Need-array-copy-out-added-size-3
+array-copy-out-added-size-3 c = search needs
 
-size-requires-4 : tie.Need-size-requires-4
+added-size-requires-3 : tie.Need-added-size-requires-3
 unfolding sixtapRows sixtap
-size-requires-4 c κs = asked (c .before .before .before .before .before .before .before .before .args .s) 3
+added-size-requires-3 c κs =
+    let s = c .before .before .before .before .before .before .before .before .args .s in
+    asked s 3 (omega (arith, signs-right s))
 
-array-copy-out-size-5 : tie.Need-array-copy-out-size-5
-array-copy-out-size-5 c = search needs
+array-copy-out-taken-size-2 : tie.Need-array-copy-out-taken-size-2
+array-copy-out-taken-size-2 c = search needs
 
-size-requires-5 : tie.Need-size-requires-5
+taken-size-requires-2 : tie.Need-taken-size-requires-2
 unfolding sixtapRows sixtap
-size-requires-5 c κs = asked (c .before .before .before .before .before .before .before .before .before .before .args .s) 4
+taken-size-requires-2 c κs =
+    let s = c .before .before .before .before .before .before .before .before .before .before .args .s in
+    asked-taken s 4 (omega (arith, signs-right s))
 
-array-copy-out-size-6 : tie.Need-array-copy-out-size-6
-array-copy-out-size-6 c = search needs
+array-copy-out-added-size-4 : tie.Need-array-copy-out-added-size-4
+array-copy-out-added-size-4 c = search needs
 
-size-requires-6 : tie.Need-size-requires-6
+added-size-requires-4 : tie.Need-added-size-requires-4
 unfolding sixtapRows sixtap
-size-requires-6 c κs = asked (c .before .before .before .before .before .before .before .before .before .before .before .before .args .s) 5
+added-size-requires-4 c κs =
+    let s = c .before .before .before .before .before .before .before .before .before .before .before .before .args .s in
+    asked s 5 (omega (arith, signs-right s))
 
 returns : tie.Need-returns
 unfolding sixtapRows sixtap
 returns c =
     let s = c .before .before .before .before .before .before .before .before .before .before .before .before .before .args .s in
-    let a = c .before .before .before .before .before .before .before .before .before .before .size .ensures ∙ ap natAbs (toZ-ofZ (tap-fits s 0)) in
-    let b = c .before .before .before .before .before .before .before .before .size2 .ensures ∙ ap natAbs (toZ-ofZ (tap-fits s 1)) in
-    let d = c .before .before .before .before .before .before .size3 .ensures ∙ ap natAbs (toZ-ofZ (tap-fits s 2)) in
-    let e = c .before .before .before .before .size4 .ensures ∙ ap natAbs (toZ-ofZ (tap-fits s 3)) in
-    let f = c .before .before .size5 .ensures ∙ ap natAbs (toZ-ofZ (tap-fits s 4)) in
-    let g = c .size6 .ensures ∙ ap natAbs (toZ-ofZ (tap-fits s 5)) in
+    let a = c .before .before .before .before .before .before .before .before .before .before .added-size .ensures ∙ ap above (toZ-ofZ (tap-fits s 0)) in
+    let b = c .before .before .before .before .before .before .before .before .taken-size .ensures ∙ ap below (toZ-ofZ (tap-fits s 1)) in
+    let d = c .before .before .before .before .before .before .added-size2 .ensures ∙ ap above (toZ-ofZ (tap-fits s 2)) in
+    let e = c .before .before .before .before .added-size3 .ensures ∙ ap above (toZ-ofZ (tap-fits s 3)) in
+    let f = c .before .before .taken-size2 .ensures ∙ ap below (toZ-ofZ (tap-fits s 4)) in
+    let g = c .added-size4 .ensures ∙ ap above (toZ-ofZ (tap-fits s 5)) in
     made s _ a b d e f g
 
 pub row-spec : {M : Type 1} → statement M
@@ -96,16 +115,16 @@ row-spec =
     (tie.spec
     mul-t
     array-copy-out-t
-    array-copy-out-size
-    size-requires
-    array-copy-out-size-2
-    size-requires-2
-    array-copy-out-size-3
-    size-requires-3
-    array-copy-out-size-4
-    size-requires-4
-    array-copy-out-size-5
-    size-requires-5
-    array-copy-out-size-6
-    size-requires-6
+    array-copy-out-added-size
+    added-size-requires
+    array-copy-out-taken-size
+    taken-size-requires
+    array-copy-out-added-size-2
+    added-size-requires-2
+    array-copy-out-added-size-3
+    added-size-requires-3
+    array-copy-out-taken-size-2
+    taken-size-requires-2
+    array-copy-out-added-size-4
+    added-size-requires-4
     returns)
