@@ -1,21 +1,21 @@
 -- Exactly one block of the grid covers a sample, in each plane.
 
 use mathlib.Core.Path.{_≡_, refl, sym, ap, _∙_}
-use mathlib.Core.Bool.{Bool, true, false}
+use mathlib.Core.Bool.{Bool, true, false, _&&_}
 use Prim.Native.Nat.{ℕ, zero, suc, _+_, _-_, _*_, _/_, _≤_, _<_, min}
 use native.Mathlib.Omega.{arith}
 use native.Mathlib.Decide.{decLt, decLe, ℕ-discrete}
 use lib.Dec.{eqb, leb, ltb}
 use borrow.Author.Tests.{eq-eqb, ne-eqb, le-leb, lt-leb, lt-ltb, le-ltb}
 use Rattle.denoiser.specs.Window.{gate}
-use Rattle.denoiser.specs.Internal.{both, between, within, Lies}
+use Rattle.denoiser.specs.Internal.{between, within, Lies}
 use Rattle.denoiser.proofs.Gates.{gate-both, gate-eq, gate-on, gate-off, gate-zero}
 use Rattle.window.specs.Layout.{sideOf}
 use Rattle.denoiser.specs.Grid.{gridBlock, gridSide, blockIn, unitOf}
 
 -- a range of n numbers from a on, tested by its ends or by a test that agrees with them
 between-is : (a n x q j : ℕ) → (q ≡ j → (a ≤ x) × (x < a + n)) → (a ≤ x → x < a + n → q ≡ j) → between a n x ≡ eqb q j
-unfolding between both
+unfolding between
 between-is a n x q j there back = by (ℕ-discrete q j) (decLe a x) (decLt x (a + n))
   where
     by : Dec (q ≡ j) → Dec (a ≤ x) → Dec (x < a + n) → between a n x ≡ eqb q j
@@ -37,7 +37,7 @@ in-plane zero n j h = omega arith
 in-plane (suc k) n j h = omega arith
 
 pub covers : (k w h i j x y : ℕ) → x < sideOf k w → y < sideOf k h
-    → within (blockIn k (gridBlock w h i j)) x y ≡ both (eqb (y / unitOf k) i) (eqb (x / unitOf k) j)
+    → within (blockIn k (gridBlock w h i j)) x y ≡ (eqb (y / unitOf k) i && eqb (x / unitOf k) j)
 unfolding within
 covers zero w h i j x y hx hy = simp (luma-side w j x hx, luma-side h i y hy)
 covers (suc k) w h i j x y hx hy = simp (chroma-side w j x hx, chroma-side h i y hy)

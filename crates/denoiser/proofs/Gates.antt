@@ -1,13 +1,13 @@
 -- Laws of `gate`: what counts and what does not. Assumes nothing.
 use mathlib.Core.Path.{_≡_, refl, sym, ap, _∙_}
-use mathlib.Core.Bool.{Bool, true, false}
+use mathlib.Core.Bool.{Bool, true, false, _&&_}
 use Prim.Native.Nat.{ℕ, _+_, _*_, _≤_, _<_}
 use native.Mathlib.Omega.{arith}
 use native.Mathlib.Decide.{decLt, decLe, ℕ-discrete}
 use lib.Dec.{eqb, leb, ltb}
 use borrow.Author.Tests.{eq-eqb, ne-eqb, le-leb, lt-leb, lt-ltb, le-ltb}
 use Rattle.denoiser.specs.Window.{gate}
-use Rattle.denoiser.specs.Internal.{both, between}
+use Rattle.denoiser.specs.Internal.{between}
 
 -- the one step of every count: what is below i, with i itself, is what is below i + 1
 pub gate-step : (k i v : ℕ) → gate (ltb k i) v + gate (eqb k i) v ≡ gate (ltb k (i + 1)) v
@@ -19,8 +19,8 @@ gate-step k i v = by (ℕ-discrete k i) (decLt k i)
     by (no g) (yes l) = simp (lt-ltb k i l, ne-eqb k i g, lt-ltb k (i + 1) (omega arith)) (omega arith)
     by (no g) (no l) = simp (le-ltb k i (omega arith), ne-eqb k i g, le-ltb k (i + 1) (omega arith)) (omega arith)
 
-pub gate-both : (a b : Bool) (v : ℕ) → gate (both a b) v ≡ gate a (gate b v)
-unfolding gate both
+pub gate-both : (a b : Bool) (v : ℕ) → gate (a && b) v ≡ gate a (gate b v)
+unfolding gate
 gate-both true b v = refl
 gate-both false b v = refl
 
@@ -35,7 +35,7 @@ gate-times true u v = refl
 gate-times false u v = omega arith
 
 pub between-none : (a x v : ℕ) → gate (between a 0 x) v ≡ 0
-unfolding gate between both
+unfolding gate between
 between-none a x v = by (decLe a x)
   where
     by : Dec (a ≤ x) → gate (between a 0 x) v ≡ 0
@@ -43,7 +43,7 @@ between-none a x v = by (decLe a x)
     by (no g) = simp (lt-leb a x (omega arith))
 
 pub between-step : (a n x v : ℕ) → gate (between a n x) v + gate (eqb x (a + n)) v ≡ gate (between a (n + 1) x) v
-unfolding gate between both
+unfolding gate between
 between-step a n x v = by (decLe a x) (ℕ-discrete x (a + n)) (decLt x (a + n))
   where
     by : Dec (a ≤ x) → Dec (x ≡ a + n) → Dec (x < a + n) → gate (between a n x) v + gate (eqb x (a + n)) v ≡ gate (between a (n + 1) x) v

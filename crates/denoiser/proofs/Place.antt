@@ -16,7 +16,7 @@ use Rattle.laws.proofs.Slices.{mid-at, mid-long, put-before, put-inside, put-af
 use Rattle.prediction.specs.Samples.{distance}
 use Rattle.prediction.specs.Plane.{Samples}
 use Rattle.denoiser.specs.Window.{gate}
-use Rattle.denoiser.specs.Internal.{Room, Light, Raised, Placed, both, between, rowDistance, rowShare, rowTerm, shareBy, termBy}
+use Rattle.denoiser.specs.Internal.{Room, Light, Raised, Placed, between, rowDistance, rowShare, rowTerm, shareBy, termBy}
 use Rattle.denoiser.proofs.Planes.{row-below}
 
 pub placed-none : (at columns rows : ℕ) (f : ℕ → ℕ → ℕ) (l : List ℕ) → ((x y : ℕ) → f x y ≡ 0) → Placed at columns rows f l l
@@ -78,7 +78,7 @@ module _ (at columns rows : ℕ) (old ys : List ℕ) (fits : at + columns * rows
   here : (i j : ℕ) → i < columns → Dec (j ≡ y) → Dec (j < y) → Dec (i < x) → Dec (i < x + n)
       → getD (putMid (at + y * columns + x) n old ys) (at + (j * columns + i)) 0
       ≡ getD old (at + (j * columns + i)) 0 + gate (eqb j y) (gate (between x n i) (g i j))
-  unfolding gate between both
+  unfolding gate between
   here i j hi (no e) (yes l) d₁ d₂ =
       let h : j + 1 ≤ y = omega arith in
       simp (ne-eqb j y e)

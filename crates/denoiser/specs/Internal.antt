@@ -1,6 +1,6 @@
 -- What the private contracts of the crate `arnr` speak of: parts of the lent slices, and what is added to them. No public contract uses these. Assumes nothing.
 use mathlib.Core.Path.{_≡_}
-use mathlib.Core.Bool.{Bool, true, false, cond}
+use mathlib.Core.Bool.{Bool, cond, _&&_}
 use mathlib.Core.List.{List}
 use Prim.Native.Nat.{ℕ, _+_, _*_, _^_, _≤_, _<_}
 use lib.Dec.{leb, ltb}
@@ -104,16 +104,12 @@ pub record Slack (n : ℕ) (sums weights : List ℕ) : Type 0 where
 abbrev pub Light : List ℕ → Type 0
 Light curve = (e : ℕ) → getD curve e 0 ≤ 16
 
-unfoldable pub both : Bool → Bool → Bool
-both true b = b
-both false b = false
-
 -- x is one of the n numbers from a on; (x, y) is in the block
 unfoldable pub between : ℕ → ℕ → ℕ → Bool
-between a n x = both (leb a x) (ltb x (a + n))
+between a n x = leb a x && ltb x (a + n)
 
 unfoldable pub within : Block → ℕ → ℕ → Bool
-within b x y = both (between (b .y) (b .rows) y) (between (b .x) (b .columns) x)
+within b x y = between (b .y) (b .rows) y && between (b .x) (b .columns) x
 
 -- of two rows: the distance at place k, the curve's weight of it, and the weight times the second's sample
 unfoldable pub rowDistance : List ℕ → List ℕ → ℕ → ℕ

@@ -1,7 +1,7 @@
 -- The window of frames and what the denoiser makes of it, sample by sample. Assumes nothing.
 use mathlib.Core.Bool.{Bool, true, false}
 use mathlib.Core.List.{List}
-use Prim.Native.Nat.{ℕ, _+_, _*_, _/_}
+use Prim.Native.Nat.{ℕ, _*_, _/_}
 use lib.Dec.{ltb}
 use lib.IntN.{pos}
 use Rattle.laws.specs.Sums.{sumBelow, sumOver}

@@ -2,11 +2,11 @@
 use mathlib.Core.List.{List, [], _∷_}
 use Prim.Native.Nat.{ℕ, zero, suc}
 use lib.ListN.{getD}
-use lib.IntN.{ℤ, pos, negℤ, _+ℤ_, _*ℤ_}
+use lib.IntN.{ℤ, pos, _+ℤ_, _*ℤ_}
 use Rattle.prediction.specs.Samples.{clamped255}
 use Rattle.prediction.specs.declared.motion_comp.FilterSet.{FilterSet}
 use Rattle.prediction.specs.declared.motion_comp.FilterSet.the-variants.{Sixtap, Bilinear}
-use Rattle.laws.specs.Signed.{floorDiv}
+use Rattle.laws.specs.Signed.{minus, floorDiv}
 
 -- the sum of the first n products of a tap and a sample
 unfoldable pub products : (ℕ → ℤ) → (ℕ → ℕ) → ℕ → ℤ
@@ -21,24 +21,17 @@ filtered tap sample = clamped255 (floorDiv (products tap sample 6 +ℤ pos 64) 1
 abbrev pub FilterRows : Type 0
 FilterRows = ℕ → ℕ → ℤ
 
--- the number n, and the number -n
-abbrev p : ℕ → ℤ
-p n = pos n
-
-abbrev m : ℕ → ℤ
-m n = negℤ (pos n)
-
 -- the six-tap rows for the selectors 0 to 7
 unfoldable pub sixtapRows : List (List ℤ)
 sixtapRows =
-    (p 0 ∷ p 0 ∷ p 128 ∷ p 0 ∷ p 0 ∷ p 0 ∷ []) ∷
-    (p 0 ∷ m 6 ∷ p 123 ∷ p 12 ∷ m 1 ∷ p 0 ∷ []) ∷
-    (p 2 ∷ m 11 ∷ p 108 ∷ p 36 ∷ m 8 ∷ p 1 ∷ []) ∷
-    (p 0 ∷ m 9 ∷ p 93 ∷ p 50 ∷ m 6 ∷ p 0 ∷ []) ∷
-    (p 3 ∷ m 16 ∷ p 77 ∷ p 77 ∷ m 16 ∷ p 3 ∷ []) ∷
-    (p 0 ∷ m 6 ∷ p 50 ∷ p 93 ∷ m 9 ∷ p 0 ∷ []) ∷
-    (p 1 ∷ m 8 ∷ p 36 ∷ p 108 ∷ m 11 ∷ p 2 ∷ []) ∷
-    (p 0 ∷ m 1 ∷ p 12 ∷ p 123 ∷ m 6 ∷ p 0 ∷ []) ∷
+    (pos 0 ∷ pos 0 ∷ pos 128 ∷ pos 0 ∷ pos 0 ∷ pos 0 ∷ []) ∷
+    (pos 0 ∷ minus 6 ∷ pos 123 ∷ pos 12 ∷ minus 1 ∷ pos 0 ∷ []) ∷
+    (pos 2 ∷ minus 11 ∷ pos 108 ∷ pos 36 ∷ minus 8 ∷ pos 1 ∷ []) ∷
+    (pos 0 ∷ minus 9 ∷ pos 93 ∷ pos 50 ∷ minus 6 ∷ pos 0 ∷ []) ∷
+    (pos 3 ∷ minus 16 ∷ pos 77 ∷ pos 77 ∷ minus 16 ∷ pos 3 ∷ []) ∷
+    (pos 0 ∷ minus 6 ∷ pos 50 ∷ pos 93 ∷ minus 9 ∷ pos 0 ∷ []) ∷
+    (pos 1 ∷ minus 8 ∷ pos 36 ∷ pos 108 ∷ minus 11 ∷ pos 2 ∷ []) ∷
+    (pos 0 ∷ minus 1 ∷ pos 12 ∷ pos 123 ∷ minus 6 ∷ pos 0 ∷ []) ∷
     []
 
 unfoldable pub sixtap : FilterRows

@@ -1,14 +1,14 @@
 -- Motion vectors: a row and a column, 16-bit signed, in quarter pixels; doubled, in eighths. Assumes nothing.
 use mathlib.Core.Bool.{cond}
 use Prim.Native.Nat.{ℕ}
-use lib.IntN.{ℤ, pos, negsuc, _+ℤ_, _-ℤ_, _*ℤ_}
+use lib.IntN.{ℤ, pos, _+ℤ_, _-ℤ_, _*ℤ_}
 use lib.Signed.{ltZ}
-use Rattle.laws.specs.Signed.{above, floorDiv}
+use Rattle.laws.specs.Signed.{above, minus, floorDiv}
 use Rattle.prediction.specs.declared.motion_vector.Mv.{Mv}
 
 -- z brought into -32768..32767 by adding or taking away 65536, for z in -65536..65535
 abbrev pub wrapped16 : ℤ → ℤ
-wrapped16 z = cond (ltZ z (negsuc 32767)) (z +ℤ pos 65536) (cond (ltZ (pos 32767) z) (z -ℤ pos 65536) z)
+wrapped16 z = cond (ltZ z (minus 32768)) (z +ℤ pos 65536) (cond (ltZ (pos 32767) z) (z -ℤ pos 65536) z)
 
 -- twice a component, wrapping: 32767 gives -2
 abbrev pub doubled : ℤ → ℤ

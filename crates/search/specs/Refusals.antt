@@ -3,8 +3,9 @@ use mathlib.Core.Bool.{Bool, _||_}
 use mathlib.Core.List.{List, [], _∷_, _++_}
 use Prim.Native.Nat.{ℕ, _%_}
 use lib.Dec.{ltb}
-use lib.IntN.{ℤ, pos, negℤ, natAbs}
+use lib.IntN.{ℤ, pos, natAbs}
 use lib.Signed.{ltZ}
+use Rattle.laws.specs.Signed.{minus}
 use Rattle.laws.specs.Outcome.{Outcome, refused, accepted, Line, line}
 use Rattle.prediction.specs.declared.motion_vector.Mv.{Mv}
 use Rattle.prediction.specs.Plane.{Plane}
@@ -24,7 +25,7 @@ badMacroblock column row = ltb 1023 column || ltb 1023 row
 
 -- 11. A component of a vector is outside -1023..1023
 abbrev pub outside : ℤ → Bool
-outside z = ltZ z (negℤ (pos 1023)) || ltZ (pos 1023) z
+outside z = ltZ z (minus 1023) || ltZ (pos 1023) z
 
 abbrev pub outOfRange : Mv → Bool
 outOfRange v = outside (v .row) || outside (v .col)

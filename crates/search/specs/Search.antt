@@ -2,9 +2,9 @@
 use mathlib.Core.Bool.{Bool, cond, _&&_}
 use Prim.Native.Nat.{ℕ, zero, suc, _+_, _/_, _%_}
 use lib.Dec.{ltb}
-use lib.IntN.{ℤ, pos, negℤ, _+ℤ_, _*ℤ_}
+use lib.IntN.{ℤ, pos, _+ℤ_, _*ℤ_}
 use lib.Signed.{ltZ, quotZ}
-use Rattle.laws.specs.Signed.{eqZ}
+use Rattle.laws.specs.Signed.{minus, eqZ}
 use Rattle.laws.specs.Best.{bestOf}
 use Rattle.laws.specs.Square.{squarePlace, stepTo}
 use Rattle.prediction.specs.declared.motion_vector.Mv.{Mv}
@@ -13,7 +13,7 @@ use Rattle.search.specs.declared.SearchResult.{SearchResult}
 
 -- a component clamped to -1023..1023
 abbrev pub clampedMv : ℤ → ℤ
-clampedMv z = cond (ltZ z (negℤ (pos 1023))) (negℤ (pos 1023)) (cond (ltZ (pos 1023) z) (pos 1023) z)
+clampedMv z = cond (ltZ z (minus 1023)) (minus 1023) (cond (ltZ (pos 1023) z) (pos 1023) z)
 
 -- a component cut toward zero to a multiple of 4
 abbrev pub cutTo4 : ℤ → ℤ
@@ -45,13 +45,13 @@ unfoldable pub tried : (Mv → ℕ) → ℤ → ℤ → DiamondResult → Diamon
 tried cost dr dc best = cond (sameMv (stepped dr dc (best .mv)) (best .mv)) best (measured cost (stepped dr dc (best .mv)) best)
 
 abbrev pub up : (Mv → ℕ) → DiamondResult → DiamondResult
-up cost = tried cost (negℤ (pos 4)) (pos 0)
+up cost = tried cost (minus 4) (pos 0)
 
 abbrev pub down : (Mv → ℕ) → DiamondResult → DiamondResult
 down cost = tried cost (pos 4) (pos 0)
 
 abbrev pub left : (Mv → ℕ) → DiamondResult → DiamondResult
-left cost = tried cost (pos 0) (negℤ (pos 4))
+left cost = tried cost (pos 0) (minus 4)
 
 abbrev pub right : (Mv → ℕ) → DiamondResult → DiamondResult
 right cost = tried cost (pos 0) (pos 4)

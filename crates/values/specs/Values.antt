@@ -4,7 +4,8 @@ use mathlib.Core.List.{List, [], _∷_, map}
 use mathlib.Core.Path.{_≡_, refl}
 use Prim.Native.Nat.{ℕ}
 use lib.ListN.{getD}
-use lib.IntN.{ℤ, pos, negℤ}
+use lib.IntN.{ℤ, pos}
+use Rattle.laws.specs.Signed.{minus}
 use Rattle.laws.specs.Sums.{sumOver}
 use Rattle.laws.specs.Largest.{largest, nearest}
 use Rattle.prediction.specs.Samples.{distance}
@@ -17,13 +18,6 @@ use Rattle.search.specs.Search.{onGrid}
 use Rattle.denoiser.specs.Grid.{gridBlock, blockIn}
 use Rattle.denoiser.specs.Search.{halved}
 use Rattle.denoiser.specs.Window.{sadAccepted}
-
--- the number n, and the number -n
-p : ℕ → ℤ
-p n = pos n
-
-m : ℕ → ℤ
-m n = negℤ (pos n)
 
 -- 1 where the test holds, else 0
 flag : Bool → ℤ
@@ -47,34 +41,34 @@ shareOf displaced = weightOf 1 (distance displaced 100)
 pub table : List Row
 table =
     -- w at strength 1: e=0 gives 16, 4 gives 8, 15 gives 1, 16 gives 0
-    row (p (weightOf 1 0)) (p 16) ∷ row (p (weightOf 1 4)) (p 8) ∷ row (p (weightOf 1 15)) (p 1) ∷ row (p (weightOf 1 16)) (p 0) ∷
+    row (pos (weightOf 1 0)) (pos 16) ∷ row (pos (weightOf 1 4)) (pos 8) ∷ row (pos (weightOf 1 15)) (pos 1) ∷ row (pos (weightOf 1 16)) (pos 0) ∷
     -- w at strength 6: e=4 gives 15, 87 gives 1, 88 gives 0
-    row (p (weightOf 6 4)) (p 15) ∷ row (p (weightOf 6 87)) (p 1) ∷ row (p (weightOf 6 88)) (p 0) ∷
+    row (pos (weightOf 6 4)) (pos 15) ∷ row (pos (weightOf 6 87)) (pos 1) ∷ row (pos (weightOf 6 88)) (pos 0) ∷
     -- chroma halves: -15 to -7, -1 to 0, 15 to 7
-    row (halved (m 15)) (m 7) ∷ row (halved (m 1)) (p 0) ∷ row (halved (p 15)) (p 7) ∷
+    row (halved (minus 15)) (minus 7) ∷ row (halved (minus 1)) (pos 0) ∷ row (halved (pos 15)) (pos 7) ∷
     -- diamond starts: 1023 to 1020, -1023 to -1020, -5 to -4, 32767 to 1020
-    row (onGrid (p 1023)) (p 1020) ∷ row (onGrid (m 1023)) (m 1020) ∷ row (onGrid (m 5)) (m 4) ∷ row (onGrid (p 32767)) (p 1020) ∷
+    row (onGrid (pos 1023)) (pos 1020) ∷ row (onGrid (minus 1023)) (minus 1020) ∷ row (onGrid (minus 5)) (minus 4) ∷ row (onGrid (pos 32767)) (pos 1020) ∷
     -- component -1: doubled -2, whole -1, fraction 6
-    row (doubled (m 1)) (m 2) ∷ row (wholeOf (doubled (m 1))) (m 1) ∷ row (p (fractionOf (doubled (m 1)))) (p 6) ∷
+    row (doubled (minus 1)) (minus 2) ∷ row (wholeOf (doubled (minus 1))) (minus 1) ∷ row (pos (fractionOf (doubled (minus 1)))) (pos 6) ∷
     -- component 1023: whole 255, fraction 6
-    row (wholeOf (doubled (p 1023))) (p 255) ∷ row (p (fractionOf (doubled (p 1023)))) (p 6) ∷
+    row (wholeOf (doubled (pos 1023))) (pos 255) ∷ row (pos (fractionOf (doubled (pos 1023)))) (pos 6) ∷
     -- selector 4, support 0 0 255 255 0 0: 255; support 0 255 0 0 255 0: 0; selector 2, support 10 20 30 40 50 60: 32
-    row (sampleOf 4 (0 ∷ 0 ∷ 255 ∷ 255 ∷ 0 ∷ 0 ∷ [])) (p 255) ∷
-    row (sampleOf 4 (0 ∷ 255 ∷ 0 ∷ 0 ∷ 255 ∷ 0 ∷ [])) (p 0) ∷
-    row (sampleOf 2 (10 ∷ 20 ∷ 30 ∷ 40 ∷ 50 ∷ 60 ∷ [])) (p 32) ∷
+    row (sampleOf 4 (0 ∷ 0 ∷ 255 ∷ 255 ∷ 0 ∷ 0 ∷ [])) (pos 255) ∷
+    row (sampleOf 4 (0 ∷ 255 ∷ 0 ∷ 0 ∷ 255 ∷ 0 ∷ [])) (pos 0) ∷
+    row (sampleOf 2 (10 ∷ 20 ∷ 30 ∷ 40 ∷ 50 ∷ 60 ∷ [])) (pos 32) ∷
     -- centre 100, one other 104, strength 1: sum 2432, total 24, sample 101
-    row (p (weightedSum 100 shareOf (λ d. d) (104 ∷ []))) (p 2432) ∷
-    row (p (totalWeight shareOf (104 ∷ []))) (p 24) ∷
-    row (p (denoised 2432 24)) (p 101) ∷
+    row (pos (weightedSum 100 shareOf (λ d. d) (104 ∷ []))) (pos 2432) ∷
+    row (pos (totalWeight shareOf (104 ∷ []))) (pos 24) ∷
+    row (pos (denoised 2432 24)) (pos 101) ∷
     -- 16 by 16 block: SAD 3327 accepted, 3328 excluded; 1 by 1: 12 and 13
-    row (flag (sadAccepted (gridBlock 16 16 0 0) 3327)) (p 1) ∷ row (flag (sadAccepted (gridBlock 16 16 0 0) 3328)) (p 0) ∷
-    row (flag (sadAccepted (gridBlock 1 1 0 0) 12)) (p 1) ∷ row (flag (sadAccepted (gridBlock 1 1 0 0) 13)) (p 0) ∷
+    row (flag (sadAccepted (gridBlock 16 16 0 0) 3327)) (pos 1) ∷ row (flag (sadAccepted (gridBlock 16 16 0 0) 3328)) (pos 0) ∷
+    row (flag (sadAccepted (gridBlock 1 1 0 0) 12)) (pos 1) ∷ row (flag (sadAccepted (gridBlock 1 1 0 0) 13)) (pos 0) ∷
     -- width 17: the second block covers chroma column 8 only, and cw is 9
-    row (p (blockIn 1 (gridBlock 17 16 0 1) .x)) (p 8) ∷ row (p (blockIn 1 (gridBlock 17 16 0 1) .columns)) (p 1) ∷ row (p (sideOf 1 17)) (p 9) ∷
+    row (pos (blockIn 1 (gridBlock 17 16 0 1) .x)) (pos 8) ∷ row (pos (blockIn 1 (gridBlock 17 16 0 1) .columns)) (pos 1) ∷ row (pos (sideOf 1 17)) (pos 9) ∷
     -- the distance bound for n=1: strength 1 gives 1, strength 6 gives 8
-    row (p (distanceBound (weightOf 1) 1)) (p 1) ∷ row (p (distanceBound (weightOf 6) 1)) (p 8) ∷
+    row (pos (distanceBound (weightOf 1) 1)) (pos 1) ∷ row (pos (distanceBound (weightOf 6) 1)) (pos 8) ∷
     []
 
 pub values : map (λ (r : Row). r .given) table ≡ map (λ (r : Row). r .paper) table
-unfolding table row p m flag sampleOf shareOf products filtered sixtap sixtapRows scale weightOf sumOver totalWeight weightedSum denoised largest nearest distanceBound
+unfolding table row flag sampleOf shareOf products filtered sixtap sixtapRows scale weightOf sumOver totalWeight weightedSum denoised largest nearest distanceBound
 values = refl
