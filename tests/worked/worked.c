@@ -2,9 +2,9 @@
  * Computes the worked cases of docs/MODEL.md, section 8, with the library, from the formulas that the page states, and
  * prints each as it stands there: a block that opens with ```worked NAME. `tests/worked/run` compares the two.
  *
- * Two kinds of numbers are not the library's answers: the cost of a displacement, for which it is asked for the SAD of
- * two blocks, and the products of a filter, from which its sample has to follow. The program ends with status 1 where
- * something that has to agree does not.
+ * Three kinds of numbers are not the library's answers: the cost of a displacement, for which it is asked for the SAD of
+ * two blocks; the products of a filter, from which its sample has to follow; and the vectors of a round's tries, of which
+ * it gives the SADs. The program ends with status 1 where something that has to agree does not.
  */
 #include "vp8model.h"
 
@@ -256,14 +256,13 @@ static void edge(void)
 
 static uint8_t corner_bytes[2 * CORNER_SAMPLES];
 
-static void lend_corner(void)
+/* The other frame's Y is 112 but at the marks: column, row, sample. */
+static void lend_corner(const uint8_t (*marks)[3], size_t count)
 {
-    static const uint8_t marks[6][3] = {{16, 8, 108}, {8, 16, 108}, {12, 4, 106},
-                                        {8, 4, 101},  {14, 6, 103}, {13, 7, 102}};
     uint8_t *centre = corner_bytes, *other = corner_bytes + CORNER_SAMPLES;
     memset(centre, 100, CORNER_SAMPLES);
     memset(other, 112, SIDE * SIDE);
-    for (size_t k = 0; k < 6; k++)
+    for (size_t k = 0; k < count; k++)
         other[marks[k][1] * SIDE + marks[k][0]] = marks[k][2];
     for (int i = 0; i < CHROMA_SIDE * CHROMA_SIDE; i++) {
         other[289 + i] = (uint8_t)(100 + i % CHROMA_SIDE);
@@ -271,15 +270,23 @@ static void lend_corner(void)
     }
 }
 
-static void corner(void)
+static vp8model_build build_corner(void)
 {
     static const vp8model_frame frames[2] = {{SIDE, SIDE, 0, 289, 370, SIDE, CHROMA_SIDE},
                                              {SIDE, SIDE, 451, 740, 821, SIDE, CHROMA_SIDE}};
-    static const size_t last[3] = {288, 369, 450};
-    lend_corner();
-    open_case("corner");
     vp8model_build b = build(corner_bytes, sizeof corner_bytes, frames, 2, 0, 1, MOST, MOST);
     require(b.refusal == 0, "the window of 17 by 17 was refused");
+    return b;
+}
+
+static void corner(void)
+{
+    static const uint8_t marks[6][3] = {{16, 8, 108}, {8, 16, 108}, {12, 4, 106},
+                                        {8, 4, 101},  {14, 6, 103}, {13, 7, 102}};
+    static const size_t last[3] = {288, 369, 450};
+    lend_corner(marks, 6);
+    open_case("corner");
+    vp8model_build b = build_corner();
     printf("width %" PRIu32 ", height %" PRIu32 ", accepted %" PRIu32 "\n", b.width, b.height, b.accepted);
     for (size_t k = 0; k < 3; k++)
         printf("entry %zu: output %u, sum %" PRIu32 ", total %" PRIu32 "\n", last[k], (unsigned)output[last[k]],
@@ -408,6 +415,109 @@ static void refinements(void)
     close_case();
 }
 
+/* ---- the orders of the tries: two neighbours that follow one another cost the same, and less than those before them */
+
+/* Neighbour k of 1 to 8: its column and row in the square of three by three. */
+static int across(int k)
+{
+    return (k < 5 ? k - 1 : k) % 3;
+}
+
+static int down(int k)
+{
+    return (k < 5 ? k - 1 : k) / 3;
+}
+
+static void print_block_order(int k)
+{
+    uint8_t marks[3][3] = {{8, 8, 108}};
+    for (int i = 0; i < 2; i++) {
+        marks[1 + i][0] = (uint8_t)(4 + 4 * across(k + i));
+        marks[1 + i][1] = (uint8_t)(4 + 4 * down(k + i));
+        marks[1 + i][2] = 104;
+    }
+    lend_corner((const uint8_t (*)[3])marks, 3);
+    build_corner();
+    printf("block search, %d and %d: U sum %" PRIu32 ", total %" PRIu32 "; V sum %" PRIu32 ", total %" PRIu32 "\n", k,
+           k + 1, sums[369], weights[369], sums[450], weights[450]);
+}
+
+#define FIELD_SIDE 36
+
+static uint8_t field[FIELD_SIDE * FIELD_SIDE];
+
+/* c + a x + b y in the plane, and a source that exceeds the macroblock in column 1 and row 1 by t. */
+static void lend_field(int a, int b, int c, int t)
+{
+    for (int i = 0; i < FIELD_SIDE * FIELD_SIDE; i++)
+        field[i] = (uint8_t)(c + a * (i % FIELD_SIDE) + b * (i / FIELD_SIDE));
+    for (int i = 0; i < 256; i++)
+        source[i] = (uint8_t)(field[(16 + i / 16) * FIELD_SIDE + 16 + i % 16] + t);
+}
+
+/* 100 + |2 x - 47| - |2 y - 47| in the plane, and a source of 255. */
+static void lend_saddle(void)
+{
+    for (int i = 0; i < FIELD_SIDE * FIELD_SIDE; i++)
+        field[i] = (uint8_t)(100 + abs(2 * (i % FIELD_SIDE) - 47) - abs(2 * (i / FIELD_SIDE) - 47));
+    memset(source, 255, sizeof source);
+}
+
+/* Two neighbours with their SADs. */
+static void print_pair(const char *what, int row, int col, int other_row, int other_col)
+{
+    int v[2][2] = {{row, col}, {other_row, other_col}};
+    printf("%s:", what);
+    for (int k = 0; k < 2; k++) {
+        vp8model_sad s = vp8model_mb_luma_sad_at_mv(field, sizeof field, FIELD_SIDE, FIELD_SIDE, FIELD_SIDE, 1, 1,
+                                                    source, (int16_t)v[k][0], (int16_t)v[k][1]);
+        require(s.refusal == 0, "a SAD was refused");
+        printf(" (%d, %d) %" PRIu32, v[k][0], v[k][1], s.sad);
+    }
+}
+
+static void print_diamond_order(const char *what, int row, int col, int other_row, int other_col)
+{
+    print_pair(what, row, col, other_row, other_col);
+    vp8model_diamond d = vp8model_small_diamond_search_luma(field, sizeof field, FIELD_SIDE, FIELD_SIDE, FIELD_SIDE, 1,
+                                                            1, source, 0, 0, 1);
+    require(d.refusal == 0, "a diamond was refused");
+    printf("; gives (%d, %d)\n", d.row, d.col);
+}
+
+static void print_refinement_order(int k)
+{
+    char what[32];
+    snprintf(what, sizeof what, "half refinement, %d and %d", k, k + 1);
+    print_pair(what, 2 * down(k) - 2, 2 * across(k) - 2, 2 * down(k + 1) - 2, 2 * across(k + 1) - 2);
+    vp8model_search s = vp8model_half_pixel_refine_luma(field, sizeof field, FIELD_SIDE, FIELD_SIDE, FIELD_SIDE, 1, 1,
+                                                        source, 0, 0);
+    require(s.refusal == 0, "a refinement was refused");
+    printf("; gives (%d, %d)\n", s.row, s.col);
+}
+
+static void orders(void)
+{
+    /* a, b, c and t for each pair; for 4 and 5 stands the saddle */
+    static const int slopes[7][4] = {{1, 4, 0, -2}, {-1, 4, 40, -2}, {2, 4, 0, -1}, {0, 0, 0, 0},
+                                     {2, 4, 0, 1},  {1, 4, 0, 2},    {-1, 4, 40, 2}};
+    open_case("orders");
+    for (int k = 1; k <= 7; k++)
+        print_block_order(k);
+    lend_field(-1, 1, 40, 1);
+    print_diamond_order("diamond, down and left", 4, 0, 0, -4);
+    lend_saddle();
+    print_diamond_order("diamond, left and right", 0, -4, 0, 4);
+    for (int k = 1; k <= 7; k++) {
+        if (k == 4)
+            lend_saddle();
+        else
+            lend_field(slopes[k - 1][0], slopes[k - 1][1], slopes[k - 1][2], slopes[k - 1][3]);
+        print_refinement_order(k);
+    }
+    close_case();
+}
+
 /* ---- two passes: one sample of the halo whose sample at column x and row y of it is (4 x + 124 y) mod 256 */
 
 static uint8_t halo[441];
@@ -503,6 +613,7 @@ int main(void)
     corner();
     diamond();
     refinements();
+    orders();
     two_passes();
     narrow_strides();
     return 0;
