@@ -21,7 +21,7 @@ pub fn run(words: &[String]) -> Result<(), Failure> {
     let outputs = Outputs::named(&words, &input, &output)?;
     let size = Size::new(width, height);
     let (bytes, count) = read_frames(&input, &size)?;
-    let frames = (0..count).map(|g| size.frame(g)).collect::<Option<Vec<Frame>>>().ok_or_else(|| too_far(&input))?;
+    let frames = records(&input, &size, count)?;
     let legal = (1..=16383).contains(&width) && (1..=16383).contains(&height);
     let samples = if legal { size.samples() } else { 0 };
     let mut filled = Filled {
@@ -106,6 +106,15 @@ impl Size {
         let [y, u, v] = [u32::try_from(y).ok()?, u32::try_from(u).ok()?, u32::try_from(v).ok()?];
         Some(Frame { width, height, y, u, v, luma_stride: width, chroma_stride: chroma })
     }
+}
+
+// The record of each frame.
+fn records(input: &Path, size: &Size, count: u64) -> Result<Vec<Frame>, Failure> {
+    let mut frames = room(count, "frame records")?;
+    for g in 0..count {
+        frames.push(size.frame(g).ok_or_else(|| too_far(input))?);
+    }
+    Ok(frames)
 }
 
 fn too_far(input: &Path) -> Failure {
