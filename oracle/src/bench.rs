@@ -212,16 +212,17 @@ fn builder((width, height): (usize, usize), count: usize, step: usize) -> [f64; 
     let packed = |y, u, v| I420Frame::packed(width as u32, height as u32, y, u, v);
     let frames: Vec<I420Frame> = bytes.chunks(samples).map(|p| packed(&p[..y], &p[y..u], &p[u..])).collect();
     let (mut output, mut sums, mut weights) = (vec![0; samples], vec![0; samples], vec![0; samples]);
+    let rust = || build_arnr_altref(black_box(&frames), count / 2, &ArnrConfig::new(3)).expect("a legal window");
+    let lent = model::Lent { output: &mut output, sums: &mut sums, weights: &mut weights };
+    let built = model::build_from_numbers(&bytes, &numbers, count / 2, 3, lent);
+    let ArnrPicture { y, u, v, .. } = rust();
+    assert_eq!(output, [y, u, v].concat());
     let mut ours = || {
         let lent = model::Lent { output: &mut output, sums: &mut sums, weights: &mut weights };
         black_box(model::build_from_numbers(black_box(&bytes), black_box(&numbers), count / 2, 3, lent)).accepted
     };
-    let rust = || build_arnr_altref(black_box(&frames), count / 2, &ArnrConfig::new(3)).expect("a legal window");
     let blocks = width.div_ceil(16) * height.div_ceil(16) * (count - 1);
-    let accepted = ours() as usize * 100 / blocks;
-    let ArnrPicture { y, u, v, .. } = rust();
+    let accepted = built.accepted as usize * 100 / blocks;
     let name = format!("builder {width}x{height}, {count} frames, {accepted}%");
-    let times = measure(&name, || _ = ours(), || _ = black_box(rust()));
-    assert_eq!(output, [y, u, v].concat());
-    times
+    measure(&name, || _ = ours(), || _ = black_box(rust()))
 }

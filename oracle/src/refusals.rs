@@ -1,5 +1,5 @@
 //! Document 01's refusals, in its order, in exact arithmetic. 0 means that the call is accepted.
-//! Only accepted inputs are handed to the originals.
+//! Only accepted inputs are handed to the originals, and windows that 3 or 4 refuses, whose own error is held against it.
 
 use crate::motion_vector::Mv;
 

@@ -18,7 +18,7 @@ const FLATS: usize = CHECKERS + 3 * 1600;
 pub const LEVELS: [u8; 6] = [100, 104, 112, 113, 0, 255];
 /// Four of 33 by 33: symmetric about each diagonal, left to right, and top to bottom.
 const MIRRORS: usize = FLATS + 6 * 1100;
-/// For each of `CUT_SIZES` and each of `CUT_PLACES`: 113 but for one sample of 112.
+/// For each of `CUT_SIZES`, and for the first sample and the middle one: 113 but for that sample of 112.
 const CUTS: usize = MIRRORS + 4 * 1089;
 pub const CUT_SIZES: [(u32, u32); 8] = [(16, 16), (1, 1), (2, 2), (15, 16), (16, 15), (1, 16), (16, 1), (7, 9)];
 pub const LEN: usize = CUTS + 2 * 8 * 256;

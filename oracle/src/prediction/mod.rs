@@ -1,4 +1,4 @@
-//! The answers for the crate `prediction`: the files `planes` and `cases` of the replay's data/, and its stdout.
+//! The answers for the crates `prediction`, `fetch` and `sixtap`: the files `planes` and `cases` of the replay's data/, and its stdout.
 //!
 //! `planes` is 32768 bytes of noise; the plane of a fetch is a part of it. `cases` is a file of records
 //! (see records.rs). With the numbers of a record counted from 0, number 1 being the expected answer:

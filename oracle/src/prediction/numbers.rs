@@ -16,10 +16,12 @@ use crate::records::{Records, biased16, biased32, packed};
 
 pub fn add(records: &mut Records) {
     for v in clamped_numbers() {
+        assert_eq!(i32::from(clamp255(v)), v.clamp(0, 255), "{v} clamped");
         records.add(5, clamp255(v).into(), &[biased32(v)], &[]);
     }
     for a in 0..=255 {
         let row: [u8; 256] = std::array::from_fn(|b| distance(a, b as u8));
+        assert_eq!(row, std::array::from_fn(|b| a.abs_diff(b as u8)), "distances from {a}");
         records.add(6, 0, &[a.into()], &[&row]);
     }
     for mv in vectors() {
@@ -38,6 +40,7 @@ pub fn add(records: &mut Records) {
             FilterSet::Sixtap => 0,
             FilterSet::Bilinear => 1,
         };
+        assert_eq!(set, u64::from(version != 0), "filter set of version {version}");
         records.add(10, set, &[version.into()], &[]);
     }
 }
