@@ -1,6 +1,6 @@
 /*
- * The calls of vp8model.h that vp8model.svh cannot import as they are: slices come as open arrays, and an answer
- * goes to the words of a packed struct, which are those of the C struct (little endian).
+ * The calls of vp8model.h that vp8model.svh cannot import as they are: slices come as open arrays, a size_t as a
+ * longint unsigned, and an answer goes to the words of a packed struct, which are those of the C struct (little endian).
  */
 #include "vp8model.h"
 

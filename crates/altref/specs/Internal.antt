@@ -10,7 +10,7 @@ use Rattle.window.specs.declared.Frame.{Frame}
 use Rattle.window.specs.Frames.{numbersPerFrame, zeroFrame}
 use Rattle.denoiser.specs.declared.BuildAnswer.{BuildAnswer}
 use Rattle.denoiser.specs.Demand.{Held}
-use Rattle.denoiser.specs.Build.{asked, BuildInput, BuildIs}
+use Rattle.denoiser.specs.Build.{asked, BuildIs}
 use Rattle.altref.specs.Records.{numbersOf}
 
 -- the most frames that are not refused, and the size of the array that holds the numbers of so many

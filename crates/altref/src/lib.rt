@@ -5,10 +5,9 @@ use window::Frame;
 use window::NUMBERS_PER_FRAME;
 use window::Refusal;
 ghost use mathlib.Core.Path.{_≡_};
-ghost use Prim.Native.Nat.{ℕ, _<_, _≤_};
+ghost use Prim.Native.Nat.{_<_, _≤_};
 ghost use lib.ListN.{length, replicate};
-ghost use Rattle.denoiser.specs.Demand.{Held};
-ghost use Rattle.denoiser.specs.Build.{asked, BuildInput, BuildIs};
+ghost use Rattle.denoiser.specs.Build.{asked, BuildIs};
 ghost use Rattle.altref.specs.Records.{flat};
 ghost use Rattle.altref.specs.Internal.{maxFrames, arraySize, putFrame, filled, takenOf, OverArray};
 

@@ -19,7 +19,7 @@ ghost use Rattle.denoiser.specs.Grid.{gridBlock, gridSide, blockIn, unitOf};
 ghost use Rattle.denoiser.specs.Search.{displacedBy, displacementIn};
 ghost use Rattle.denoiser.specs.Window.{gate, costOf, displacementOf, sadAccepted, blockAccepted, acceptedIn};
 ghost use Rattle.denoiser.specs.Pictures.{pictureOf, othersOf};
-ghost use Rattle.denoiser.specs.Internal.{Fits, Whole, Short, Span, Lies, Lent, Room, Slack, Light, Frames, Measured, Raised, Placed, Spread, within, between, rowShare, rowTerm, shareBy, termBy, planeIn, packedPlane, numbersOf, packedPicture, packedScene, curveRule, curveShare, curveTerm};
+ghost use Rattle.denoiser.specs.Internal.{Fits, Whole, Short, Span, Lies, Lent, Slack, Light, Frames, Measured, Raised, Placed, Spread, within, between, rowShare, rowTerm, shareBy, termBy, planeIn, packedPlane, numbersOf, packedPicture, packedScene, curveRule, curveShare, curveTerm};
 
 // The weight of a displaced sample against the centre's.
 fn share(curve: &[u32; 256], d: u8, c: u8) -> u32

@@ -10,10 +10,9 @@ ghost use Rattle.prediction.specs.Plane.{sampleAt};
 ghost use Rattle.weights.specs.Blend.{denoised};
 ghost use Rattle.window.specs.Layout.{sideOf, offsetOf, packedSize};
 ghost use Rattle.denoiser.specs.Pictures.{pictureOf};
-ghost use Rattle.denoiser.specs.Demand.{Held};
 ghost use Rattle.denoiser.specs.Window.{centreAt};
 ghost use Rattle.denoiser.specs.Build.{asked, sceneOf};
-ghost use Rattle.denoiser.specs.Internal.{Fits, Whole, Frames, Lent, Exact, Front, Stored, Shows, Ready, Legal, Blended, Made, planeIn};
+ghost use Rattle.denoiser.specs.Internal.{Fits, Whole, Lent, Exact, Front, Stored, Shows, Ready, Legal, Blended, Made, planeIn};
 
 // A row is copied.
 fn copy_row(from: &[u8], to: &mut [u8])

@@ -8,10 +8,7 @@ use denoiser::BuildAnswer;
 use denoiser::Built;
 use weights::ArnrConfig;
 use window::Checked;
-ghost use mathlib.Core.Path.{_≡_};
-ghost use lib.ListN.{length};
-ghost use Rattle.denoiser.specs.Demand.{Held};
-ghost use Rattle.denoiser.specs.Build.{BuildInput, BuildIs, asked};
+ghost use Rattle.denoiser.specs.Build.{BuildIs, asked};
 
 // The builder over the numbers of the frames: seven for each, numbers left over are not read.
 pub fn build_from_numbers(

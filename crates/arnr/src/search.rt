@@ -5,7 +5,7 @@ use denoiser::Displacement;
 use denoiser::Motion;
 use denoiser::PlaneNumbers;
 ghost use mathlib.Core.Path.{_≡_};
-ghost use Prim.Native.Nat.{ℕ, _+_, _-_, _*_, _<_, _≤_};
+ghost use Prim.Native.Nat.{_+_, _-_, _*_, _<_, _≤_};
 ghost use lib.ListN.{length};
 ghost use Rattle.laws.specs.Signed.{above, below};
 ghost use Rattle.laws.specs.Best.{betterOf};

@@ -3,11 +3,10 @@ use denoiser::BuildAnswer;
 use weights::ArnrConfig;
 use window::Frame;
 ghost use mathlib.Core.Path.{_≡_};
-ghost use Prim.Native.Nat.{ℕ, _≤_, min};
+ghost use Prim.Native.Nat.{_≤_, min};
 ghost use lib.ListN.{take};
 ghost use Rattle.window.specs.Frames.{frameCount};
-ghost use Rattle.denoiser.specs.Demand.{Held};
-ghost use Rattle.denoiser.specs.Build.{asked, BuildInput, BuildIs};
+ghost use Rattle.denoiser.specs.Build.{asked, BuildIs};
 ghost use Rattle.altref.specs.Records.{flat};
 ghost use Rattle.framelist.specs.Lists.{arrayRecords, Listed};
 

@@ -1,4 +1,4 @@
-// Replays the stored answers of the Rust originals on the crate `motion_search`, and prints how many cases
+// Replays the stored answers of the Rust originals, and document 01's refusals, on the crate `motion_search`, and prints how many cases
 // it compared and how many differ, by call.
 // The layout of `samples` and `cases` is written in oracle/src/search/mod.rs.
 mod calls;
