@@ -42,12 +42,13 @@ fn added_size(t: i32) -> u16
     t as u16
 }
 
-// The size of a tap that is taken away, which is not positive.
+// The size of a tap that is taken away, which is not positive. By a branch, since the compiler moves a plain difference into the loops
+// over the samples.
 fn taken_size(t: i32) -> u16
     requires { ⌜ (below t ≤ 128) × (above t ≡ 0) ⌝ }
     ensures { λ r. ⌜ r ≡ below t ⌝ }
 {
-    (0 - t) as u16
+    if t < 0 { (0 - t) as u16 } else { 0 }
 }
 
 // The row of a selector.
