@@ -3,8 +3,9 @@
  * prints each as it stands there: a block that opens with ```worked NAME. `tests/worked/run` compares the two.
  *
  * Three kinds of numbers are not the library's answers: the cost of a displacement, for which it is asked for the SAD of
- * two blocks; the products of a filter, from which its sample has to follow; and the vectors of a round's tries, of which
- * it gives the SADs. The program ends with status 1 where something that has to agree does not.
+ * two blocks; the products of a filter, from which its sample has to follow; and the vectors of a round's tries, of a
+ * refinement's square and of the pairs of `orders`, of which it gives the SADs. The program ends with status 1 where
+ * something that has to agree does not.
  */
 #include "vp8model.h"
 
@@ -415,7 +416,7 @@ static void refinements(void)
     close_case();
 }
 
-/* ---- the orders of the tries: two neighbours that follow one another cost the same, and less than those before them */
+/* ---- the orders of the tries: two neighbours that follow one another cost the same, and less than all the others */
 
 /* Neighbour k of 1 to 8: its column and row in the square of three by three. */
 static int across(int k)

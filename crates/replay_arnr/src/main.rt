@@ -1,6 +1,6 @@
-// Replays the stored answers of the Rust originals, and document 01's refusals, on the builder, over numbers and over frame records, and
-// prints how many cases it compared and how many differ: the empty window first, then one frame, then
-// strength 0, then windows, refusals and configurations.
+// Replays the stored answers of the Rust originals, and document 01's refusals, on the builder, over numbers and over frame
+// records, and on its configuration, and prints how many cases it compared and how many differ: the empty window first, then
+// one frame, then strength 0, then windows, refusals and configurations.
 // The layout of `pictures` and `cases` is written in oracle/src/denoiser/mod.rs.
 mod builds;
 mod parts;
