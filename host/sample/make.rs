@@ -1,5 +1,5 @@
-//! Writes the sample clip to standard output: 5 noisy I420 frames of 64 by 48. A texture moves by (2, 1) samples a
-//! frame; whole numbers only, so that every machine writes the same bytes.
+//! Writes the sample clip to standard output: 5 noisy I420 frames of 64 by 48. A texture moves by (-2, -1) samples a
+//! frame, left and up; whole numbers only, so that every machine writes the same bytes.
 
 use std::io::Write;
 

@@ -190,12 +190,13 @@ fn searches() {
     println!("  of that a macroblock, least: model {ours}, Rust {rust}");
 }
 
-// The pictures of a texture with noise, packed; it moves by (2, 3) times `step` from one to the next.
+// The pictures of a texture with noise, packed: each shows what lies 2 rows lower and 3 columns further right in the one
+// before, times `step`.
 fn pictures((width, height): (usize, usize), count: usize, step: usize) -> Vec<u8> {
     let (columns, rows) = (width.div_ceil(2), height.div_ceil(2));
     let plane = |seed: usize, columns: usize, rows: usize| content::bytes(5, seed as u64, columns * rows, columns);
     // the noise of each plane follows from more of its seed than the texture's place
-    let at = |g: usize, k: usize, across: usize, down: usize| 100 * k + (across + 256 * down) * g * step + (g << 16);
+    let at = |g: usize, k: usize, down: usize, across: usize| 100 * k + (down + 256 * across) * g * step + (g << 16);
     let chroma = |g: usize, k: usize| plane(at(g, k, 1, 1), columns, rows);
     let picture = |g: usize| [plane(at(g, 0, 2, 3), width, height), chroma(g, 1), chroma(g, 2)].concat();
     (0..count).flat_map(picture).collect()
