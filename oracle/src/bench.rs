@@ -191,7 +191,7 @@ fn searches() {
 }
 
 // The pictures of a texture with noise, packed: each shows what lies 2 rows lower and 3 columns further right in the one
-// before, times `step`.
+// before, in chroma 1 and 1, times `step`.
 fn pictures((width, height): (usize, usize), count: usize, step: usize) -> Vec<u8> {
     let (columns, rows) = (width.div_ceil(2), height.div_ceil(2));
     let plane = |seed: usize, columns: usize, rows: usize| content::bytes(5, seed as u64, columns * rows, columns);
