@@ -159,7 +159,8 @@ fn halos(plane: &[u8], name: &str, mv: Mv) {
 
 type Source = ((usize, usize), [u8; 256]);
 
-// The diamond and both refinements for each of the 396 macroblocks of a texture that moved by (5, -3), with noise.
+// The diamond and both refinements for each of the 396 macroblocks of a texture with noise, which shows what lies 5 rows
+// lower and 3 columns further left in the reference.
 fn searches() {
     let plane = content::bytes(4, 20 + 256 * 20, WIDTH * HEIGHT, WIDTH);
     let moved = content::bytes(5, 25 + 256 * 17, WIDTH * HEIGHT, WIDTH);

@@ -174,13 +174,14 @@ static vp8model_build build(enum builder which, size_t centre, uint8_t strength)
                                       at_words(&weights), weights.length);
 }
 
-/* All three lent slices, and what is only read, are as they were. */
+/* What is only read is as it was. */
 static int inputs_kept(enum builder which)
 {
     return same_bytes(&picture) && same_words(&numbers)
            && (which != FROM_RECORDS || memcmp(records, records_kept, sizeof records) == 0);
 }
 
+/* And so are all three lent slices. */
 static int all_kept(enum builder which)
 {
     return inputs_kept(which) && same_bytes(&output) && same_words(&sums) && same_words(&weights);

@@ -77,7 +77,7 @@ pub fn frame((width, height): (u32, u32), starts: [usize; 3], strides: (usize, u
     [width, height, y, u, v, strides.0 as u32, strides.1 as u32]
 }
 
-/// The texture from (40 + x, 30 + y) on; chroma lies further down and moves by half.
+/// The texture from (40 + x, 30 + y) on; U from (20, 50) and V from (90, 20), both moved by half.
 pub fn texture(size: (u32, u32), (x, y): (i32, i32), shaken: bool) -> Frame {
     let base = if shaken { SHAKEN } else { TEXTURE } as i32;
     let at = |x: i32, y: i32| (base + y * 160 + x) as usize;
@@ -94,7 +94,7 @@ pub fn noise((width, height): (u32, u32), index: usize) -> Frame {
     frame((width as u32, height as u32), [y, u, u + columns * rows], (width, columns))
 }
 
-/// A ramp; the strides are 0, 1 and 2, below the width.
+/// A ramp; the strides are 0, 1 and 2, below the width but of the narrowest pictures.
 pub fn ramp(size: (u32, u32), index: usize) -> Frame {
     let at = |k: usize| RAMP + (index * 5 + k * 60) % 380;
     frame(size, [at(0), at(1), at(2)], (index % 3, (index + 1) % 3))

@@ -38,7 +38,7 @@ fn size(i: usize) -> (u32, u32) {
     (SIZES[i % 8], SIZES[i / 8 % 8])
 }
 
-// One frame: the centre is cropped at every strength; numbers left over are not read.
+// One frame, at strengths 0 and 6: the centre is cropped; numbers left over are not read.
 fn add_single(writer: &mut Writer) {
     for i in (0..64).step_by(3) {
         let frames = [picture(size(i), i % 6, i), [7; 7]];
@@ -112,7 +112,7 @@ fn add_cut_off(writer: &mut Writer) {
     }
 }
 
-// Symmetric pictures, ramps and checkers about one another: neighbours of the block search tie.
+// Symmetric pictures, and checkers, about one another: neighbours of the block search tie.
 fn add_ties(writer: &mut Writer) {
     for i in 0..16 {
         let size = [(16, 16), (17, 17), (33, 33), (31, 15)][i / 4];
@@ -156,7 +156,7 @@ fn add_repeats(writer: &mut Writer) {
     }
 }
 
-// Black and white: no block is accepted, yet sums and weights are written.
+// Black and white: no block of the one is accepted for the other, yet sums and weights are written.
 fn add_excluded(writer: &mut Writer) {
     for (i, size) in [(1, 1), (16, 16), (33, 17), (2, 31)].into_iter().enumerate() {
         let (black, white) = (flat(size, 4, 5), flat(size, 5, 4));
