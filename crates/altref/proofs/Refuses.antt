@@ -1,4 +1,4 @@
--- Refusals 1 and 2 look at the number of numbers only: what is promised where one of the two applies. Assumes nothing.
+-- Of the numbers, refusals 1 and 2 look only at how many there are: what is promised where one of the two applies. Assumes nothing.
 use mathlib.Core.Path.{_≡_, refl, sym, ap, _∙_}
 use mathlib.Core.Bool.{true, false}
 use mathlib.Core.List.{List, []}

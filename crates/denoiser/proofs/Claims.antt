@@ -1,4 +1,5 @@
--- Claims of document 01 on the grid, the block search and the sizes of sums and totals, each a law. Assumes nothing.
+-- Claims of document 01 on the grid, the block search, chroma halves, acceptance and shares, each a law; and how large sums and
+-- totals can be. Assumes nothing.
 use mathlib.Core.Path.{_≡_, refl, sym, subst⁻¹}
 use mathlib.Core.Bool.{true, false}
 use mathlib.Core.List.{List, [], _∷_, _++_}

@@ -15,7 +15,8 @@ use search::DiamondAnswer;
 use search::SadAnswer;
 use search::SearchAnswer;
 
-// Document 01's number of a refusal, 0 where the call is accepted, and what is found; 0 what is not.
+// Document 01's number of a refusal, 0 where the call is accepted, and what is found; what is not is 0, and for the vector the
+// one that is stored as 0.
 struct Outcome {
     refusal: usize,
     sad: u32,
