@@ -47,7 +47,7 @@ impl Place {
         }
     }
 
-    // Equal exactly where two names stand for one file.
+    // Equal exactly where two names stand for one file; none for a character device, which is never compared.
     fn identity(&self) -> Option<(u64, u64, Option<&OsStr>)> {
         match self {
             Place::Free(path, folder) => Some((folder.dev(), folder.ino(), path.file_name())),

@@ -14,7 +14,7 @@ use std::hint::black_box;
 use std::time::{Duration, Instant};
 
 const ROUNDS: usize = 41;
-/// What a round of one side takes at least.
+/// What a round of the slower side takes at least.
 const ROUND: Duration = Duration::from_millis(3);
 const WIDTH: usize = 352;
 const HEIGHT: usize = 288;

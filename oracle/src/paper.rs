@@ -1,6 +1,6 @@
 //! Document 01's rules for the luma prediction, read anew; below them those for the searches and for
-//! the denoiser. Each answer of the originals is held against these before it is written; where they
-//! part, the run stops and says so.
+//! the denoiser. Each answer of the originals that they speak of is held against them before it is
+//! written; where the two part, the run stops and says so.
 
 pub mod denoiser;
 pub mod search;

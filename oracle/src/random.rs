@@ -1,5 +1,6 @@
-//! The generator of every random number: splitmix64, seeded by a literal at each use in the stored answers,
-//! and by the run's seed and the input's index in the comparison.
+//! The generator of every random number: splitmix64, seeded by a literal at each use in the stored answers and for
+//! the texture that comparison and benchmark share, by the run's seed and the input's index elsewhere in the
+//! comparison, and in the benchmark by numbers that are written there.
 
 pub struct Random(u64);
 

@@ -45,7 +45,7 @@ impl Answer {
     }
 }
 
-/// Of calls that are never refused and lend nothing.
+/// Of calls that are never refused and write nothing that is lent.
 pub fn numbers(model: &[i64], expected: &[i64]) -> Pair {
     Pair { model: Answer::new(0, model), expected: Answer::new(0, expected) }
 }

@@ -46,7 +46,7 @@ pub const KINDS: [Kind; 10] = [
            answers: answer_quarter },
 ];
 
-/// The most bytes that a plane gets; one that needs more is short.
+/// What a plane's need is cut to, before a few bytes more are added; one that needs much more is short.
 const MOST: u128 = 70_000;
 
 fn selector(random: &mut Random) -> i128 {
@@ -114,7 +114,7 @@ fn draw_fetch(random: &mut Random) -> Drawn {
     (all, vec![])
 }
 
-// A vector on a grid, off it and out of range in a few.
+// A component on a grid, off it and out of range in a few.
 fn vector(random: &mut Random, grid: i16) -> i128 {
     let on_grid = |v: i16| v / grid * grid;
     match random.below(100) {

@@ -8,7 +8,8 @@ use crate::refusals::{legal_size, packed_size, planes};
 
 type Frame = [u32; 7];
 
-/// The most picture bytes; a window that needs more has planes that do not fit.
+/// What a window's need is cut to, before a few bytes more are added; one that needs much more has planes that do not
+/// fit.
 const MOST: u128 = 140_000;
 
 /// Numbers for frame_count and frame_at.
