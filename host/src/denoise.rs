@@ -30,7 +30,9 @@ pub fn run(words: &[String]) -> Result<(), Failure> {
         weights: zeros(samples, "total weights")?,
     };
     let others = count.saturating_sub(1);
-    note(&format!("denoise: {count} frames of {samples} samples: {others} others into frame {centre} at strength {strength}"));
+    note(&format!(
+        "denoise: {count} frames of {samples} samples: {others} others into frame {centre} at strength {strength}"
+    ));
     let built = model::build(&bytes, &frames, centre as usize, strength, &mut filled)?;
     let cropped = strength == 0 || others == 0;
     if cropped {
