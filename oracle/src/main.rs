@@ -2,10 +2,11 @@
 //!
 //!     oracle answers NAME OUTDIR
 //!     oracle compare [--inputs N] [--seed S] [--index I] [--quick]
+//!     oracle cells [--quick]
 //!     oracle bench
 //!
 //! NAME is prediction, search or arnr; OUTDIR gets the folder data/ and the file stdout of the crate replay_NAME.
-//! Exit status: 0 done; 1 the comparison found a difference; 2 bad usage; 3 the originals, or for the last two the
+//! Exit status: 0 done; 1 the comparison found a difference; 2 bad usage; 3 the originals, or for the last three the
 //! model's library, are not there and nothing was done; 101 an answer of the originals is not document 01's, or they
 //! panicked.
 #![cfg_attr(feature = "simd", feature(portable_simd))]
@@ -15,6 +16,8 @@ include!(concat!(env!("OUT_DIR"), "/sources.rs"));
 
 #[cfg(all(model, not(sources_absent)))]
 mod bench;
+#[cfg(all(model, not(sources_absent)))]
+mod cells;
 #[cfg(all(model, not(sources_absent)))]
 mod compare;
 #[cfg(not(sources_absent))]
@@ -65,8 +68,12 @@ fn main() {
             Some(same) => exit(if same { 0 } else { 1 }),
             None => usage("usage: oracle compare [--inputs N] [--seed S] [--index I] [--quick]"),
         },
+        ["cells", ..] => match cells(&words[1..]) {
+            Some(same) => exit(if same { 0 } else { 1 }),
+            None => usage("usage: oracle cells [--quick]"),
+        },
         ["bench"] => bench(),
-        _ => usage("usage: oracle answers NAME OUTDIR, or oracle compare, or oracle bench"),
+        _ => usage("usage: oracle answers NAME OUTDIR, or oracle compare, oracle cells or oracle bench"),
     }
 }
 
@@ -98,6 +105,11 @@ fn compare(words: &[&str]) -> Option<bool> {
 }
 
 #[cfg(all(model, not(sources_absent)))]
+fn cells(words: &[&str]) -> Option<bool> {
+    cells::run(words)
+}
+
+#[cfg(all(model, not(sources_absent)))]
 fn bench() {
     bench::run()
 }
@@ -109,6 +121,11 @@ fn bench() {
 
 #[cfg(not(all(model, not(sources_absent))))]
 fn compare(_words: &[&str]) -> Option<bool> {
+    without_model()
+}
+
+#[cfg(not(all(model, not(sources_absent))))]
+fn cells(_words: &[&str]) -> Option<bool> {
     without_model()
 }
 

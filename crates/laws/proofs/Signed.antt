@@ -247,3 +247,36 @@ above-less {z} h = omega (arith, h .eq, one-zero z)
 
 pub below-less : {z : ℤ} {p n : ℕ} → Less z p n → below z ≡ n - p
 below-less {z} h = omega (arith, h .eq, one-zero z)
+
+-- a number of 32 bits shifted right by 31 is its sign, -1 below 0 and else 0. One plus the sign, as a factor, keeps a number that is
+-- not below 0 and turns every other into 0; all of it fits 32 bits
+pub record SignOf (z : ℤ) : Type 0 where
+  pub sign : shrZ z 2147483648 ≡ cond (ltZ z (pos 0)) (negsuc 0) (pos 0)
+  pub kept : z *ℤ (pos 1 +ℤ shrZ z 2147483648) ≡ pos (above z)
+  pub fits-sign : SFits w32 (shrZ z 2147483648)
+  pub fits-one : SFits w32 (pos 1 +ℤ shrZ z 2147483648)
+  pub fits-kept : SFits w32 (z *ℤ (pos 1 +ℤ shrZ z 2147483648))
+
+pub sign-of : (z : ℤ) → SFits w32 z → SignOf z
+sign-of (pos n) f =
+    let e : n / 2147483648 ≡ 0 = div-eq-of-lt (f .sfits) in
+    let t = times (pos n) 1 in
+    let k : pos n *ℤ (pos 1 +ℤ shrZ (pos n) 2147483648) ≡ pos n = rw e (same _ _ (omega (arith, t .up, t .dn))) in
+    record {
+      sign = rw (not-lt (pos n) (pos 0) (omega arith)) (ap pos e);
+      kept = k;
+      fits-sign = rw e (record { sfits = lit< tt });
+      fits-one = rw e (record { sfits = lit< tt });
+      fits-kept = rw k f;
+    }
+sign-of (negsuc n) f =
+    let e : n / 2147483648 ≡ 0 = div-eq-of-lt (f .sfits) in
+    let t = times (negsuc n) 0 in
+    let k : negsuc n *ℤ (pos 1 +ℤ shrZ (negsuc n) 2147483648) ≡ pos 0 = rw e (same _ _ (omega (arith, t .up, t .dn))) in
+    record {
+      sign = ap negsuc e;
+      kept = k;
+      fits-sign = rw e (record { sfits = lit< tt });
+      fits-one = rw e (record { sfits = lit< tt });
+      fits-kept = rw k (record { sfits = lit< tt });
+    }

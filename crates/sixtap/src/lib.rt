@@ -1,7 +1,7 @@
 // The six-tap filter of a macroblock: RFC 6386 section 18.3.
 use prediction::inverse_transform::clamp255;
 ghost use mathlib.Core.Path.{_≡_};
-ghost use Prim.Native.Nat.{_+_, _-_, _*_, _/_, _≤_, _<_, min, max};
+ghost use Prim.Native.Nat.{_+_, _-_, _*_, _/_, _≤_, _<_, min};
 ghost use lib.ListN.{length, getD};
 ghost use Rattle.laws.specs.Signed.{above, below};
 ghost use Rattle.laws.specs.Outcome.{firstOf};
@@ -81,19 +81,14 @@ fn weighed(t: u16, x: u8) -> u16
     t * (x as u16)
 }
 
-// The greater of two numbers.
-fn greater(a: u16, b: u16) -> u16
-    ensures { λ r. ⌜ r ≡ max a b ⌝ }
-{
-    if a < b { b } else { a }
-}
-
-// p less n, plus 64, divided by 128 rounding down, clamped to 0..255. In 16 bits, which the compiler does side by side.
+// p less n, plus 64, divided by 128 rounding down, clamped to 0..255. In 16 bits up to the clamp, which the compiler does side by side:
+// 8192 more keeps the difference from falling below 0, and is taken away again, halved, once the half fits a signed number.
 fn rounded(p: u16, n: u16) -> u8
-    requires { ⌜ p ≤ 40800 ⌝ }
+    requires { ⌜ (p ≤ 40800) × (n ≤ 8160) ⌝ }
     ensures { λ r. ⌜ r ≡ min ((p + 64 - n) / 128) 255 ⌝ }
 {
-    clamp255(((greater(p + 64, n) - n) / 128) as i32)
+    let half = (p + 8256 - n) / 2;
+    clamp255((((half as i16) - 4096) >> 6) as i32)
 }
 
 // One filtered sample.

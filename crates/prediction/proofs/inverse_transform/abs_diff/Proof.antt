@@ -1,36 +1,60 @@
--- `abs_diff` meets its contract: the difference in ℤ, by its parts. Assumes nothing.
+-- `abs_diff` meets its contract: of the difference and of its opposite it keeps what is not below 0. Assumes nothing.
 use borrow.Author.Needs.{needs}
-use mathlib.Core.Path.{_≡_}
-use Prim.Native.Nat.{ℕ, _-_, _<_}
+use mathlib.Core.Path.{_≡_, ap}
+use Prim.Native.Nat.{ℕ, _<_}
 use native.Mathlib.Omega.{arith}
-use lib.IntN.{ℤ, pos, natAbs, _-ℤ_}
-use mir.Syntax.{w32}
-use mir.Val.{SFits}
+use lib.Dec.{T}
+use lib.IntN.{ℤ, pos, natAbs, _+ℤ_, _-ℤ_}
+use lib.Signed.{nonNeg}
+use mir.Syntax.{w8, w32}
+use mir.Val.{SFits, Fits, toZ, ofZ}
 use mir.Facts.{toZ-ofZ, toZ-pos}
-use Rattle.laws.specs.Signed.{above, below}
-use Rattle.laws.proofs.Signed.{diff, self, lt-true, lt-false, signs}
+use Rattle.laws.proofs.Signed.{diff, sign-of}
 use Rattle.prediction.specs.Samples.{distance}
+use Rattle.prediction.proofs.Cells.{kept, held-sign, held-factor, held-kept}
 use Rattle.prediction.proofs.inverse_transform.abs_diff.Statement.{statement}
 use Rattle.prediction.proofs.inverse_transform.abs_diff.Tie as tie
 
+-- the difference, its opposite, and what is kept of the two
+abbrev less : ℕ → ℕ → ℤ
+less a b = pos a -ℤ pos b
+
+abbrev opposite : ℕ → ℕ → ℤ
+opposite a b = pos 0 -ℤ less a b
+
+abbrev both : ℕ → ℕ → ℤ
+both a b = kept (less a b) +ℤ kept (opposite a b)
+
 module _ (a b : ℕ) (ha : a < 256) (hb : b < 256) where
-  fits-d : SFits w32 (pos a -ℤ pos b)
+  fits-d : SFits w32 (less a b)
   fits-d = omega (arith, diff (pos a) (pos b))
 
-  fits-n : SFits w32 (pos 0 -ℤ (pos a -ℤ pos b))
-  fits-n = omega (arith, diff (pos a) (pos b), diff (pos 0) (pos a -ℤ pos b))
+  fits-e : SFits w32 (opposite a b)
+  fits-e = omega (arith, diff (pos a) (pos b), diff (pos 0) (less a b))
 
-  up : above (pos a -ℤ pos b) ≡ a - b
-  up = omega (arith, diff (pos a) (pos b) .up)
+  both-is : both a b ≡ pos (distance a b)
+  both-is =
+      rw (sign-of _ fits-d .kept, sign-of _ fits-e .kept)
+      (ap pos (omega (arith, diff (pos a) (pos b) .up, diff (pos a) (pos b) .dn, diff (pos 0) (less a b) .up)))
 
-  down : below (pos a -ℤ pos b) ≡ b - a
-  down = omega (arith, diff (pos a) (pos b) .dn)
+  fits-both : SFits w32 (both a b)
+  fits-both = rw both-is (record { sfits = omega arith })
 
-  -- the size of the difference taken from 0
-  size : natAbs (pos 0 -ℤ (pos a -ℤ pos b)) ≡ distance a b
-  size =
-      let z = pos a -ℤ pos b in
-      omega (arith, self (pos 0 -ℤ z) .abs, diff (pos 0) z .up, diff (pos 0) z .dn, up, down)
+  byte : T (nonNeg (both a b)) × Fits w8 (natAbs (both a b))
+  byte = rw both-is (tt, record { fits = omega arith })
+
+  -- what the locals of 32 bits hold of the two bytes, of the difference and of its opposite
+  held-a : toZ w32 a ≡ pos a
+  held-a = toZ-pos w32 {n = a} (omega arith)
+
+  held-b : toZ w32 b ≡ pos b
+  held-b = toZ-pos w32 {n = b} (omega arith)
+
+  held-d : toZ w32 (ofZ w32 (toZ w32 a -ℤ toZ w32 b)) ≡ less a b
+  held-d = rw (held-a, held-b) (toZ-ofZ fits-d)
+
+  held-e : toZ w32 (ofZ w32 (opposite a b)) ≡ opposite a b
+  held-e = toZ-ofZ fits-e
 
 cast-d : tie.Need-cast-d
 cast-d c = search needs
@@ -40,58 +64,50 @@ cast-d-2 c = search needs
 
 sub-d : tie.Need-sub-d
 sub-d c =
-    let a = c .args .a in
-    let b = c .args .b in
-    simp (toZ-pos w32 {n = a} (omega arith), toZ-pos w32 {n = b} (omega arith)) (fits-d a b (omega arith) (omega arith))
+    let h = c .fits .a .fits in let k = c .fits .b .fits in
+    simp (held-a _ _ h k, held-b _ _ h k) (fits-d _ _ h k)
 
-sub-result : tie.Need-sub-result
-sub-result c =
-    let a = c .before .args .a in
-    let b = c .before .args .b in
-    let f = toZ-ofZ (fits-d a b (omega arith) (omega arith)) in
-    simp (toZ-pos w32 {n = a} (omega arith), toZ-pos w32 {n = b} (omega arith), f) (fits-n a b (omega arith) (omega arith))
+sub-e : tie.Need-sub-e
+sub-e c =
+    let h = c .fits .a .fits in let k = c .fits .b .fits in
+    simp (held-d _ _ h k) (fits-e _ _ h k)
+
+add-result : tie.Need-add-result
+add-result c =
+    let h = c .fits .a .fits in let k = c .fits .b .fits in let f = fits-d _ _ h k in
+    simp (held-d _ _ h k, held-sign f) (sign-of _ f .fits-one)
+
+mul-result : tie.Need-mul-result
+mul-result c =
+    let h = c .fits .a .fits in let k = c .fits .b .fits in let f = fits-d _ _ h k in
+    simp (held-d _ _ h k, held-factor f) (sign-of _ f .fits-kept)
+
+add-result-2 : tie.Need-add-result-2
+add-result-2 c =
+    let h = c .fits .a .fits in let k = c .fits .b .fits in let g = fits-e _ _ h k in
+    simp (held-d _ _ h k, held-e _ _ h k, held-sign g) (sign-of _ g .fits-one)
+
+mul-result-2 : tie.Need-mul-result-2
+mul-result-2 c =
+    let h = c .fits .a .fits in let k = c .fits .b .fits in let g = fits-e _ _ h k in
+    simp (held-d _ _ h k, held-e _ _ h k, held-factor g) (sign-of _ g .fits-kept)
+
+add-result-3 : tie.Need-add-result-3
+add-result-3 c =
+    let h = c .fits .a .fits in let k = c .fits .b .fits in let f = fits-d _ _ h k in let g = fits-e _ _ h k in
+    simp (held-d _ _ h k, held-e _ _ h k, held-kept f, held-kept g) (fits-both _ _ h k)
 
 cast-result : tie.Need-cast-result
 cast-result c =
-    let a = c .before .args .a in
-    let b = c .before .args .b in
-    let p = toZ-pos w32 {n = a} (omega arith) in
-    let q = toZ-pos w32 {n = b} (omega arith) in
-    let f = toZ-ofZ (fits-d a b (omega arith) (omega arith)) in
-    let g = toZ-ofZ (fits-n a b (omega arith) (omega arith)) in
-    let t = simp (p, q, f) at (c .if1 .taken) in
-    simp (p, q, f, g)
-    (omega (arith, signs, lt-true (pos a -ℤ pos b) (pos 0) t, diff (pos a) (pos b), diff (pos 0) (pos a -ℤ pos b)))
+    let h = c .fits .a .fits in let k = c .fits .b .fits in let f = fits-d _ _ h k in let g = fits-e _ _ h k in
+    simp (held-d _ _ h k, held-e _ _ h k, held-kept f, held-kept g, toZ-ofZ (fits-both _ _ h k)) (byte _ _ h k)
 
 returns : tie.Need-returns
 returns c =
-    let a = c .before .args .a in
-    let b = c .before .args .b in
-    let f = toZ-ofZ (fits-d a b (omega arith) (omega arith)) in
-    let g = toZ-ofZ (fits-n a b (omega arith) (omega arith)) in
-    simp (toZ-pos w32 {n = a} (omega arith), toZ-pos w32 {n = b} (omega arith), f, g) (size a b (omega arith) (omega arith))
-
-cast-result-2 : tie.Need-cast-result-2
-cast-result-2 c =
-    let a = c .before .args .a in
-    let b = c .before .args .b in
-    let p = toZ-pos w32 {n = a} (omega arith) in
-    let q = toZ-pos w32 {n = b} (omega arith) in
-    let f = toZ-ofZ (fits-d a b (omega arith) (omega arith)) in
-    let t = simp (p, q, f) at (c .if1 .left) in
-    simp (p, q, f) (omega (arith, signs, lt-false (pos a -ℤ pos b) (pos 0) t, diff (pos a) (pos b)))
-
-returns-2 : tie.Need-returns-2
-returns-2 c =
-    let a = c .before .args .a in
-    let b = c .before .args .b in
-    let p = toZ-pos w32 {n = a} (omega arith) in
-    let q = toZ-pos w32 {n = b} (omega arith) in
-    let f = toZ-ofZ (fits-d a b (omega arith) (omega arith)) in
-    let t = simp (p, q, f) at (c .if1 .left) in
-    simp (p, q, f) (omega (arith, signs, lt-false (pos a -ℤ pos b) (pos 0) t, diff (pos a) (pos b)))
+    let h = c .fits .a .fits in let k = c .fits .b .fits in let f = fits-d _ _ h k in let g = fits-e _ _ h k in
+    simp (held-d _ _ h k, held-e _ _ h k, held-kept f, held-kept g, toZ-ofZ (fits-both _ _ h k)) (ap natAbs (both-is _ _ h k))
 
 pub abs-diff-spec : {M : Type 1} → statement M
 abs-diff-spec =
     tie.close
-    (tie.spec cast-d cast-d-2 sub-d sub-result cast-result returns cast-result-2 returns-2)
+    (tie.spec cast-d cast-d-2 sub-d sub-e add-result mul-result add-result-2 mul-result-2 add-result-3 cast-result returns)
