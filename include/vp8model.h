@@ -112,9 +112,10 @@ typedef struct vp8model_build {
     uint32_t frame;
 } vp8model_build;
 
-/* Samples and vectors. v clamped to 0..255, and |a - b|: both by arithmetic alone, as cells do them. A vector
- * is in quarter pixels; stored, it is in eighths: each component doubled, wrapping. whole_offset and fraction
- * take a component in eighths: an eighth of it rounded down, also below zero, and the rest, 0 to 7. */
+/* Samples and vectors. v clamped to 0..255, and |a - b|: both by arithmetic alone, as the silicon's clamp and
+ * difference cells do them. A vector is in quarter pixels; stored, it is in eighths: each component doubled,
+ * wrapping. whole_offset and fraction take a component in eighths: an eighth of it rounded down, also below
+ * zero, and the rest, 0 to 7. */
 uint8_t vp8model_clamp255(int32_t v);
 uint8_t vp8model_abs_diff(uint8_t a, uint8_t b);
 vp8model_vector vp8model_stored_luma_mv(int16_t row, int16_t col);

@@ -22,7 +22,7 @@ impl Seen {
         self.compared += 1;
         if model != original {
             self.differ += 1;
-            self.first.get_or_insert_with(|| format!("{} is {model}, of the original {original}", call()));
+            self.first.get_or_insert_with(|| format!("{} is {model}, and {original} in the original", call()));
         }
     }
 
@@ -53,6 +53,7 @@ pub fn run(words: &[&str]) -> Option<bool> {
         _ => return None,
     };
     let clamped = if quick { clamps(few(), plant) } else { all_clamps() };
+    assert!(quick || clamped.compared == 1 << 32, "all numbers of 32 bits");
     let clamp_same = clamped.told("clamp255", "numbers");
     let distance_same = distances(plant).told("abs_diff", "pairs");
     Some(clamp_same && distance_same)

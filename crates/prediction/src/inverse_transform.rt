@@ -10,7 +10,7 @@ pub fn clamp255(v: i32) -> u8
 {
     // the lower end: keep v, or 0 where its sign is set
     let kept = v * (1 + (v >> 31));
-    // what 255 leaves of it: its sign is set where that is above 255
+    // what it leaves of 255: its sign is set where it is above 255
     let room = 255 - kept;
     // the upper end: keep the room, or 0 where its sign is set, and take it from 255
     (255 - room * (1 + (room >> 31))) as u8

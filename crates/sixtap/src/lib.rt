@@ -42,8 +42,8 @@ fn added_size(t: i32) -> u16
     t as u16
 }
 
-// The size of a tap that is taken away, which is not positive. By a branch, since the compiler moves a plain difference into the loops
-// over the samples.
+// The size of a tap that is taken away, which is not positive. By a branch: with a plain difference `interp` takes twice as long at the odd
+// selectors too (docs/SPEED.md).
 fn taken_size(t: i32) -> u16
     requires { ⌜ (below t ≤ 128) × (above t ≡ 0) ⌝ }
     ensures { λ r. ⌜ r ≡ below t ⌝ }

@@ -14,7 +14,7 @@ use Rattle.laws.proofs.Signed.{diff, floor, floor-shift, fits}
 use Rattle.sixtap.proofs.rounded.Statement.{statement}
 use Rattle.sixtap.proofs.rounded.Tie as tie
 
--- the half of the difference, plus 64; and the number that is clamped
+-- half of the difference plus 64 and 8192; that less 4096; and a 64th of this rounded down, the number that is clamped
 abbrev half : ℕ → ℕ → ℕ
 half p n = (p + 8256 - n) / 2
 

@@ -1,4 +1,4 @@
--- `clamp255` meets its contract: of v it keeps what is not below 0, and of what 255 leaves of that again. Assumes nothing.
+-- `clamp255` meets its contract: of v it keeps what is not below 0, and then of what that leaves of 255. Assumes nothing.
 use mathlib.Core.Path.{_≡_, ap, _∙_}
 use Prim.Native.Nat.{_-_}
 use native.Mathlib.Omega.{arith}
@@ -15,7 +15,7 @@ use Rattle.prediction.proofs.Cells.{kept, held-sign, held-factor, held-
 use Rattle.prediction.proofs.inverse_transform.clamp255.Statement.{statement}
 use Rattle.prediction.proofs.inverse_transform.clamp255.Tie as tie
 
--- what 255 leaves of v, once it is kept from falling below 0; and 255 less as much of that as is kept
+-- what v, or 0 where v is below 0, leaves of 255; and 255 less that, or less 0 where that is below 0
 abbrev room : ℤ → ℤ
 room v = pos 255 -ℤ kept v
 
