@@ -25,6 +25,10 @@ opposite a b = pos 0 -ℤ less a b
 abbrev both : ℕ → ℕ → ℤ
 both a b = kept (less a b) +ℤ kept (opposite a b)
 
+-- what a local of 32 bits holds of a byte
+held-byte : (n : ℕ) → n < 256 → toZ w32 n ≡ pos n
+held-byte n h = toZ-pos w32 {n = n} (omega arith)
+
 module _ (a b : ℕ) (ha : a < 256) (hb : b < 256) where
   fits-d : SFits w32 (less a b)
   fits-d = omega (arith, diff (pos a) (pos b))
@@ -43,15 +47,9 @@ module _ (a b : ℕ) (ha : a < 256) (hb : b < 256) where
   byte : T (nonNeg (both a b)) × Fits w8 (natAbs (both a b))
   byte = rw both-is (tt, record { fits = omega arith })
 
-  -- what the locals of 32 bits hold of the two bytes, of the difference and of its opposite
-  held-a : toZ w32 a ≡ pos a
-  held-a = toZ-pos w32 {n = a} (omega arith)
-
-  held-b : toZ w32 b ≡ pos b
-  held-b = toZ-pos w32 {n = b} (omega arith)
-
+  -- and of the difference and its opposite
   held-d : toZ w32 (ofZ w32 (toZ w32 a -ℤ toZ w32 b)) ≡ less a b
-  held-d = rw (held-a, held-b) (toZ-ofZ fits-d)
+  held-d = rw (held-byte a ha, held-byte b hb) (toZ-ofZ fits-d)
 
   held-e : toZ w32 (ofZ w32 (opposite a b)) ≡ opposite a b
   held-e = toZ-ofZ fits-e
@@ -65,7 +63,7 @@ cast-d-2 c = search needs
 sub-d : tie.Need-sub-d
 sub-d c =
     let h = c .fits .a .fits in let k = c .fits .b .fits in
-    simp (held-a _ _ h k, held-b _ _ h k) (fits-d _ _ h k)
+    simp (held-byte _ h, held-byte _ k) (fits-d _ _ h k)
 
 sub-e : tie.Need-sub-e
 sub-e c =
