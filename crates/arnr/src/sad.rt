@@ -2,18 +2,21 @@
 use denoiser::Block;
 use denoiser::Displacement;
 use denoiser::PlaneNumbers;
+use prediction::ceiling::Ceiled;
 use prediction::inverse_transform;
 ghost use mathlib.Core.Path.{_≡_};
 ghost use mathlib.Core.Bool.{true};
-ghost use Prim.Native.Nat.{ℕ, _+_, _-_, _*_, _<_, _≤_};
+ghost use Prim.Native.Nat.{ℕ, _+_, _*_, _<_, _≤_};
 ghost use lib.IntN.{pos, _+ℤ_};
 ghost use lib.ListN.{length, getD};
 ghost use Rattle.laws.specs.Signed.{above, below};
 ghost use Rattle.laws.specs.Sums.{sumBelow};
 ghost use Rattle.prediction.specs.Samples.{distance};
 ghost use Rattle.prediction.specs.Plane.{sampleAt, nearestIn};
+ghost use Rattle.prediction.specs.Ceiled.{CeiledIs};
+ghost use Rattle.prediction.specs.Internal.{rowApart};
 ghost use Rattle.denoiser.specs.Search.{displacedBy};
-ghost use Rattle.denoiser.specs.Internal.{Fits, Short, Span, Runs, Lies, planeIn, packedPlane, rowDistance, rowsDistance, lumaCost, Capped};
+ghost use Rattle.denoiser.specs.Internal.{Fits, Short, Span, Runs, Lies, planeIn, packedPlane, rowDistance, lumaRow};
 
 // The coordinate nearest to x + d among 0 .. n - 1.
 fn edge(x: usize, d: i32, n: usize) -> usize
@@ -162,20 +165,6 @@ fn row_sad(a: &[u8], b: &[u8]) -> u32
     short_row_sad(a, b)
 }
 
-// The SAD of two rows of 16 and of two others.
-fn two_rows_sad(a: &[u8], b: &[u8], c: &[u8], d: &[u8]) -> u32
-    requires { ⌜ (length (now a) ≡ 16) × (length (now b) ≡ 16) × (length (now c) ≡ 16) × (length (now d) ≡ 16) ⌝ }
-    ensures { λ r. ⌜ (r ≡ sumBelow (rowsDistance (now (a .entry)) (now (b .entry)) (now (c .entry)) (now (d .entry))) 16) × (r ≤ 8160) ⌝ }
-{
-    let mut sum: u32 = 0;
-    let mut k = 0;
-    while k < 16 {
-        sum += difference(a[k], b[k]) + difference(c[k], d[k]);
-        k += 1;
-    }
-    sum
-}
-
 // The SAD of one row of a block, wherever its displaced samples lie.
 fn span_sad(
     bytes: &[u8],
@@ -199,7 +188,7 @@ fn span_sad(
     row_sad(&centre[from..to], &row[..n])
 }
 
-// The SAD of a displaced block, wherever it lies, or a part of it that has reached the ceiling.
+// The SAD of a displaced block up to a ceiling, wherever it lies: row by row.
 fn edge_sad(
     bytes: &[u8],
     p: PlaneNumbers,
@@ -207,30 +196,48 @@ fn edge_sad(
     d: Displacement,
     centre: &[u8],
     ceiling: u32,
-) -> u32
+) -> Ceiled
     requires { ⌜ Fits (now bytes) p ⌝ }
     requires { ⌜ Lies b (p .columns) (p .rows) ⌝ }
     requires { ⌜ Short d ⌝ }
     requires { ⌜ p .columns * p .rows ≤ length (now centre) ⌝ }
-    ensures { λ r. ⌜ Capped ceiling (lumaCost (now (centre .entry)) (now (bytes .entry)) p b d) r ⌝ }
+    ensures { λ r. ⌜ CeiledIs (lumaRow (now (centre .entry)) (now (bytes .entry)) p b d) (b .rows) ceiling r ⌝ }
 {
     let x = b.x;
     let y = b.y;
     let n = b.columns;
     let high = b.rows;
-    let mut sum: u32 = 0;
-    let mut r = 0;
+    let mut left = ceiling;
+    let mut r: usize = 0;
     while r < high {
-        if ceiling <= sum {
-            return sum;
-        }
-        sum += span_sad(bytes, p, x, y + r, n, d, centre);
+        let row = span_sad(bytes, p, x, y + r, n, d, centre);
         r += 1;
+        if left <= row {
+            return Ceiled {
+                sad: ceiling,
+                rows: r as u32,
+            };
+        }
+        left -= row;
     }
-    sum
+    Ceiled {
+        sad: ceiling - left,
+        rows: high as u32,
+    }
 }
 
-// The SAD of two blocks of 16 by 16, two rows a turn, or a part of it that has reached the ceiling.
+// The SAD of row r of two blocks of 16 columns.
+fn row_at(a: &[u8], at: usize, stride: usize, b: &[u8], from: usize, across: usize, r: usize) -> u32
+    requires { ⌜ (at + 15 * stride + 16 ≤ length (now a)) × (from + 15 * across + 16 ≤ length (now b)) × (r < 16) ⌝ }
+    ensures { λ s. ⌜ s ≡ rowApart (now (a .entry)) at stride (now (b .entry)) from across r ⌝ }
+{
+    let i = at + r * stride;
+    let j = from + r * across;
+    sad16(&a[i..i + 16], &b[j..j + 16])
+}
+
+// The SAD of two blocks of 16 by 16 up to a ceiling: each row, once measured, is held against what is left of it. Two
+// rows a turn.
 fn inner_sad(
     a: &[u8],
     at: usize,
@@ -239,25 +246,35 @@ fn inner_sad(
     from: usize,
     across: usize,
     ceiling: u32,
-) -> u32
+) -> Ceiled
     requires { ⌜ (at + 15 * stride + 16 ≤ length (now a)) × (from + 15 * across + 16 ≤ length (now b)) ⌝ }
-    ensures { λ r. ⌜ Capped ceiling (sumBelow (λ y. sumBelow (λ k. distance (getD (now (a .entry)) (at + y * stride + k) 0)
-        (getD (now (b .entry)) (from + y * across + k) 0)) 16) 16) r ⌝ }
+    ensures { λ r. ⌜ CeiledIs (rowApart (now (a .entry)) at stride (now (b .entry)) from across) 16 ceiling r ⌝ }
 {
-    let mut sum: u32 = 0;
-    let mut r = 0;
+    let mut left = ceiling;
+    let mut r: usize = 0;
     while r < 16 {
-        if ceiling <= sum {
-            return sum;
+        let one = row_at(a, at, stride, b, from, across, r);
+        if left <= one {
+            return Ceiled {
+                sad: ceiling,
+                rows: r as u32 + 1,
+            };
         }
-        let i = at + r * stride;
-        let j = from + r * across;
-        let k = i + stride;
-        let l = j + across;
-        sum += two_rows_sad(&a[i..i + 16], &b[j..j + 16], &a[k..k + 16], &b[l..l + 16]);
+        let rest = left - one;
+        let two = row_at(a, at, stride, b, from, across, r + 1);
+        if rest <= two {
+            return Ceiled {
+                sad: ceiling,
+                rows: r as u32 + 2,
+            };
+        }
+        left = rest - two;
         r += 2;
     }
-    sum
+    Ceiled {
+        sad: ceiling - left,
+        rows: 16,
+    }
 }
 
 // The same, by the places of the blocks in their planes.
@@ -272,10 +289,10 @@ fn placed_sad(
     x: usize,
     y: usize,
     ceiling: u32,
-) -> u32
+) -> Ceiled
     requires { ⌜ (start + (top + 15) * stride + left + 15 < length (now bytes)) × ((y + 15) * columns + x + 15 < length (now centre)) ⌝ }
-    ensures { λ r. ⌜ Capped ceiling (sumBelow (λ j. sumBelow (λ k. distance (getD (now (centre .entry)) ((y + j) * columns + (x + k)) 0)
-        (getD (now (bytes .entry)) (start + (top + j) * stride + (left + k)) 0)) 16) 16) r ⌝ }
+    ensures { λ r. ⌜ CeiledIs (λ j. sumBelow (λ k. distance (getD (now (centre .entry)) ((y + j) * columns + (x + k)) 0)
+        (getD (now (bytes .entry)) (start + (top + j) * stride + (left + k)) 0)) 16) 16 ceiling r ⌝ }
 {
     inner_sad(
         centre,
@@ -288,7 +305,7 @@ fn placed_sad(
     )
 }
 
-// The SAD of a block of 16 by 16: in bounds, two rows a turn; else row by row, each sample cut to the plane.
+// The SAD of a block of 16 by 16 up to a ceiling: in bounds, two rows a turn; else row by row, each sample cut to the plane.
 fn square_sad(
     bytes: &[u8],
     p: PlaneNumbers,
@@ -296,12 +313,12 @@ fn square_sad(
     d: Displacement,
     centre: &[u8],
     ceiling: u32,
-) -> u32
+) -> Ceiled
     requires { ⌜ Fits (now bytes) p ⌝ }
     requires { ⌜ (b .columns ≡ 16) × (b .rows ≡ 16) × Lies b (p .columns) (p .rows) ⌝ }
     requires { ⌜ Short d ⌝ }
     requires { ⌜ p .columns * p .rows ≤ length (now centre) ⌝ }
-    ensures { λ r. ⌜ Capped ceiling (lumaCost (now (centre .entry)) (now (bytes .entry)) p b d) r ⌝ }
+    ensures { λ r. ⌜ CeiledIs (lumaRow (now (centre .entry)) (now (bytes .entry)) p b d) (b .rows) ceiling r ⌝ }
 {
     let left = edge(b.x, d.dx, p.columns);
     let right = edge(b.x + 15, d.dx, p.columns);
@@ -326,8 +343,7 @@ fn square_sad(
     edge_sad(bytes, p, b, d, centre, ceiling)
 }
 
-// The SAD of a block of the centre's plane, which stands packed, and the displaced block of another frame's, where it is below the
-// ceiling; else a number that is not.
+// The SAD of a block of the centre's plane, which stands packed, and the displaced block of another frame's, up to a ceiling.
 pub(crate) fn block_sad(
     bytes: &[u8],
     p: PlaneNumbers,
@@ -335,12 +351,12 @@ pub(crate) fn block_sad(
     d: Displacement,
     centre: &[u8],
     ceiling: u32,
-) -> u32
+) -> Ceiled
     requires { ⌜ Fits (now bytes) p ⌝ }
     requires { ⌜ Lies b (p .columns) (p .rows) ⌝ }
     requires { ⌜ Short d ⌝ }
     requires { ⌜ p .columns * p .rows ≤ length (now centre) ⌝ }
-    ensures { λ r. ⌜ Capped ceiling (lumaCost (now (centre .entry)) (now (bytes .entry)) p b d) r ⌝ }
+    ensures { λ r. ⌜ CeiledIs (lumaRow (now (centre .entry)) (now (bytes .entry)) p b d) (b .rows) ceiling r ⌝ }
 {
     if b.columns == 16 {
         if b.rows == 16 {

@@ -4,6 +4,7 @@ use denoiser::Block;
 use denoiser::Displacement;
 use denoiser::Motion;
 use denoiser::PlaneNumbers;
+use prediction::ceiling::NO_CEILING;
 ghost use mathlib.Core.Path.{_≡_};
 ghost use Prim.Native.Nat.{_+_, _-_, _*_, _<_, _≤_};
 ghost use lib.ListN.{length};
@@ -13,10 +14,7 @@ ghost use Rattle.denoiser.specs.Search.{neighbourOf, blockSearch};
 ghost use Rattle.denoiser.specs.Internal.{stepBest, Fits, Reach, Short, Lies, Measured, lumaCost};
 ghost use Rattle.laws.specs.Square.{stepTo};
 
-// Above every SAD of a block.
-const NO_CEILING: u32 = 65281;
-
-// The better of the best so far and the displacement d: only a strictly smaller SAD replaces the best.
+// The better of the best so far and the displacement d, measured up to the best SAD: only a strictly smaller SAD replaces the best.
 fn try_at(
     bytes: &[u8],
     p: PlaneNumbers,
@@ -33,11 +31,11 @@ fn try_at(
     ensures { λ r. ⌜ Measured (lumaCost (now (centre .entry)) (now (bytes .entry)) p b) (betterOf (lumaCost (now (centre .entry)) (now (bytes .entry)) p b)
         (best .displacement) d) r ⌝ }
 {
-    let sad = sad::block_sad(bytes, p, b, d, centre, best.sad);
-    if sad < best.sad {
+    let read = sad::block_sad(bytes, p, b, d, centre, best.sad);
+    if read.sad < best.sad {
         Motion {
             displacement: d,
-            sad: sad,
+            sad: read.sad,
         }
     } else {
         best
@@ -92,10 +90,10 @@ pub(crate) fn block_search(bytes: &[u8], p: PlaneNumbers, b: Block, centre: &[u8
         (blockSearch (lumaCost (now (centre .entry)) (now (bytes .entry)) p b)) r ⌝ }
 {
     let none = Displacement { dx: 0, dy: 0 };
-    let sad = sad::block_sad(bytes, p, b, none, centre, NO_CEILING);
+    let first = sad::block_sad(bytes, p, b, none, centre, NO_CEILING);
     let m0 = Motion {
         displacement: none,
-        sad: sad,
+        sad: first.sad,
     };
     let m1 = round(bytes, p, b, centre, m0, 8);
     let m2 = round(bytes, p, b, centre, m1, 4);

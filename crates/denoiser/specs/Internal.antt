@@ -7,6 +7,7 @@ use lib.Dec.{leb, ltb}
 use lib.IntN.{ℤ, pos}
 use lib.ListN.{length, getD}
 use Rattle.laws.specs.Signed.{above, below}
+use Rattle.laws.specs.Sums.{sumBelow}
 use Rattle.laws.specs.Best.{bestOf}
 use Rattle.prediction.specs.Samples.{distance}
 use Rattle.prediction.specs.Plane.{Samples, Plane, sampleAt, bytesNeeded}
@@ -83,6 +84,12 @@ pub record Lent (n : ℕ) (out sums weights : List ℕ) : Type 0 where
 unfoldable pub lumaCost : List ℕ → List ℕ → PlaneNumbers → Block → Displacement → ℕ
 lumaCost centre bytes p b d = sadOf (sampleAt (packedPlane 0 (p .columns) (p .rows) centre)) (displacedBy d (sampleAt (planeIn bytes p))) b
 
+-- row i of that SAD
+unfoldable pub lumaRow : List ℕ → List ℕ → PlaneNumbers → Block → Displacement → ℕ → ℕ
+lumaRow centre bytes p b d i =
+    sumBelow (λ j. distance (sampleAt (packedPlane 0 (p .columns) (p .rows) centre) (pos (b .x + j)) (pos (b .y + i)))
+    (displacedBy d (sampleAt (planeIn bytes p)) (pos (b .x + j)) (pos (b .y + i)))) (b .columns)
+
 -- one step by itself: the best of a displacement and its eight neighbours
 unfoldable pub stepBest : (Displacement → ℕ) → ℕ → Displacement → Displacement
 stepBest cost step best = bestOf cost best (neighbourOf best step) 8
@@ -120,10 +127,6 @@ rowShare curve centre displaced k = getD curve (distance (getD displaced k 0) (g
 
 unfoldable pub rowTerm : List ℕ → List ℕ → List ℕ → ℕ → ℕ
 rowTerm curve centre displaced k = rowShare curve centre displaced k * getD displaced k 0
-
--- two rows and two others, side by side
-unfoldable pub rowsDistance : List ℕ → List ℕ → List ℕ → List ℕ → ℕ → ℕ
-rowsDistance a b c d k = rowDistance a b k + rowDistance c d k
 
 -- the same of two sample functions, at (x, y)
 unfoldable pub shareBy : List ℕ → Samples → Samples → ℕ → ℕ → ℕ
@@ -223,9 +226,3 @@ pub record Made (q : Request) (lent : Held) (count : ℕ) (held : Held) : Type 0
   pub output : held .output ≡ filled (sceneOf q) (samplesOf arnrRule q) (lent .output)
   pub sums : held .sums ≡ cond (cropped q) (lent .sums) (filled (sceneOf q) (sumAt (arnrRule (sceneOf q)) (windowOf q)) (lent .sums))
   pub weights : held .weights ≡ cond (cropped q) (lent .weights) (filled (sceneOf q) (totalAt (arnrRule (sceneOf q)) (windowOf q)) (lent .weights))
-
--- what measures a cost up to a ceiling: the cost where it is below, else a part of it that is not
-pub record Capped (ceiling cost r : ℕ) : Type 0 where
-  pub exact : r < ceiling → r ≡ cost
-  pub most : r ≤ cost
-  pub small : r ≤ 65280

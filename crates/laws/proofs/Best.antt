@@ -3,7 +3,7 @@ use mathlib.Core.Path.{_≡_, refl, ap, _∙_}
 use mathlib.Core.Bool.{Bool, true, false, cond}
 use mathlib.Core.List.{List, [], _∷_, _++_}
 use mathlib.Core.Logic.{_⊎_, inl, inr, ⊎-elim}
-use Prim.Native.Nat.{ℕ, zero, suc, _+_, _≤_, _<_}
+use Prim.Native.Nat.{ℕ, zero, suc, _+_, _≤_, _<_, min}
 use native.Mathlib.Nat.{le-refl, le-trans}
 use native.Mathlib.Numerals.{add-one}
 use native.Mathlib.Decide.{decLt}
@@ -22,6 +22,36 @@ module _ {A : Type 0} (cost : A → ℕ) (best v : A) where
   pub better-not : cost best ≤ cost v → best ≡ betterOf cost best v
   unfolding betterOf
   better-not h = simp (le-ltb (cost v) (cost best) h)
+
+-- a candidate's cost cut at the best's: what is read is the lesser of the two, and it tells the same; a value below the best's is the candidate's own
+module _ {A : Type 0} (cost : A → ℕ) (best v : A) (read : ℕ) (is : read ≡ min (cost v) (cost best)) where
+  pub cut-less : read < cost best → (v ≡ betterOf cost best v) × (read ≡ cost v)
+  cut-less h = (better-less cost best v (omega arith), omega arith)
+
+  pub cut-not : cost best ≤ read → best ≡ betterOf cost best v
+  cut-not h = better-not cost best v (omega arith)
+
+-- a search that reads the lesser of cost and best chooses what one that reads the cost does: one candidate, and n of them
+abbrev pub betterUpTo : {A : Type 0} → (A → ℕ) → A → A → A
+betterUpTo cost best v = cond (ltb (min (cost v) (cost best)) (cost best)) v best
+
+unfoldable pub bestUpTo : {A : Type 0} → (A → ℕ) → A → (ℕ → A) → ℕ → A
+bestUpTo cost start f zero = start
+bestUpTo cost start f (suc n) = betterUpTo cost (bestUpTo cost start f n) (f n)
+
+module _ {A : Type 0} (cost : A → ℕ) where
+  pub better-cut : (best v : A) → betterUpTo cost best v ≡ betterOf cost best v
+  better-cut best v = by (ltb (min (cost v) (cost best)) (cost best)) refl
+    where
+      by : (t : Bool) → ltb (min (cost v) (cost best)) (cost best) ≡ t → cond t v best ≡ betterOf cost best v
+      by true e = cut-less cost best v (min (cost v) (cost best)) refl (ltb-true _ (cost best) e) .0
+      by false e = cut-not cost best v (min (cost v) (cost best)) refl (ltb-false _ (cost best) e)
+
+  pub cut-short-same : (start : A) (f : ℕ → A) (n : ℕ) → bestUpTo cost start f n ≡ bestOf cost start f n
+  unfolding bestUpTo bestOf
+  cut-short-same start f zero = refl
+  cut-short-same start f (suc n) =
+      better-cut (bestUpTo cost start f n) (f n) ∙ ap (λ (b : A). betterOf cost b (f n)) (cut-short-same start f n)
 
 -- what is known of the best: no other is less, and it is the start or the first of the least
 pub record Chosen {A : Type 0} (cost : A → ℕ) (start : A) (f : ℕ → A) (n : ℕ) (r : A) : Type 0 where

@@ -6,6 +6,7 @@ pub mod Largest
 pub mod Each
 pub mod Best
 pub mod First
+pub mod Ceiling
 pub mod Square
 pub mod Outcome
 pub mod Slices

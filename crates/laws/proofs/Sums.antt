@@ -1,5 +1,5 @@
 -- Laws of sums. Assumes nothing.
-use mathlib.Core.Path.{_≡_, refl}
+use mathlib.Core.Path.{_≡_, refl, ap, _∙_}
 use mathlib.Core.List.{List, [], _∷_, _++_}
 use Prim.Native.Nat.{ℕ, zero, suc, _+_, _*_, _≤_, _<_}
 use native.Mathlib.Numerals.{add-one}
@@ -46,6 +46,18 @@ sum-split f a (suc b) = rw (plus-suc a b) (omega (arith, sum-split f a b))
   where
     plus-suc : (n m : ℕ) → n + suc m ≡ suc (n + m)
     plus-suc n m = omega arith
+
+-- a sum below n times m, as n rows of m summands
+pub sum-rows : (f : ℕ → ℕ) (m n : ℕ) → sumBelow f (n * m) ≡ sumBelow (λ j. sumBelow (λ k. f (j * m + k)) m) n
+unfolding sumBelow
+sum-rows f m zero = rw (none m)
+  where
+    none : (k : ℕ) → 0 * k ≡ 0
+    none k = omega arith
+sum-rows f m (suc n) = rw (one-more n m) (sum-split f (n * m) m ∙ ap (λ (s : ℕ). s + sumBelow (λ k. f (n * m + k)) m) (sum-rows f m n))
+  where
+    one-more : (k l : ℕ) → suc k * l ≡ k * l + l
+    one-more k l = omega arith
 
 pub sum-over-same : {X : Type 0} (f g : X → ℕ) (xs : List X) → ((x : X) → f x ≡ g x) → sumOver f xs ≡ sumOver g xs
 unfolding sumOver

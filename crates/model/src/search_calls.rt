@@ -1,4 +1,5 @@
 // SADs and luma motion searches for C.
+use numbers::answers::Ceiled;
 use numbers::answers::Diamond;
 use numbers::answers::Sad;
 use numbers::answers::Search;
@@ -6,10 +7,29 @@ use prediction::motion_vector::Mv;
 ghost use mathlib.Core.Path.{_≡_};
 ghost use Rattle.laws.specs.Outcome.{firstOf};
 ghost use Rattle.prediction.specs.Plane.{lumaPlane};
-ghost use Rattle.search.specs.Sad.{sad16, costOf};
+ghost use Rattle.laws.specs.Ceiling.{sumUpTo, rowsMeasured};
+ghost use Rattle.search.specs.Sad.{sad16, rowSad, costOf};
 ghost use Rattle.search.specs.Search.{diamond, refine};
 ghost use Rattle.search.specs.Refusals.{placeLines, vectorLines, gridLines};
-ghost use Rattle.numbers.specs.Answers.{mvOf, sadNumbers, searchNumbers, diamondNumbers};
+ghost use Rattle.numbers.specs.Answers.{mvOf, sadNumbers, ceiledNumbers, searchNumbers, diamondNumbers};
+
+#[no_mangle]
+pub extern "C" fn vp8model_block_sad_16x16_up_to(
+    src: &[u8; 256],
+    pred: &[u8; 256],
+    ceiling: u32,
+) -> Ceiled
+    ensures { λ r.
+        ⌜ r
+        ≡ ceiledNumbers (record {
+          sad = sumUpTo (rowSad (now (src .entry)) (now (pred .entry))) 16 ceiling;
+          rows = rowsMeasured (rowSad (now (src .entry)) (now (pred .entry))) 16 ceiling;
+        })
+        ⌝ }
+{
+    let read = motion_search::motion_search::block_sad_16x16_up_to(src, pred, ceiling);
+    numbers::ceiled_numbers(read)
+}
 
 #[no_mangle]
 pub extern "C" fn vp8model_block_sad_16x16(src: &[u8; 256], pred: &[u8; 256]) -> u32

@@ -1,5 +1,6 @@
 // The small diamond.
 use crate::motion_search::WHOLE_PIXEL_STEP;
+use crate::sads::uncut_whole_sad;
 use crate::sads::whole_sad;
 use crate::vectors::neighbour;
 use crate::vectors::same_mv;
@@ -13,7 +14,7 @@ ghost use Rattle.laws.specs.Signed.{above, below};
 ghost use Rattle.search.specs.Search.{tried, roundOf, diamond};
 ghost use Rattle.search.specs.Internal.{costAt, Ready, Whole, Good};
 
-// One neighbour of the best so far.
+// One neighbour of the best so far, measured up to the best SAD.
 fn try_at(
     plane: &[u8],
     s: Site,
@@ -33,11 +34,11 @@ fn try_at(
     if same_mv(mv, at) {
         return best;
     }
-    let sad = whole_sad(plane, s, src, mv);
-    if sad < best.sad {
+    let read = whole_sad(plane, s, src, mv, best.sad);
+    if read.sad < best.sad {
         return DiamondResult {
             mv: mv,
-            sad: sad,
+            sad: read.sad,
             sads: best.sads + 1,
             rounds: best.rounds,
         };
@@ -82,7 +83,7 @@ pub(crate) fn small_diamond(
     ensures { λ r. ⌜ r ≡ diamond (costAt (now (plane .entry)) s (now (src .entry))) center limit ⌝ }
 {
     let mv = to_grid(center);
-    let sad = whole_sad(plane, s, src, mv);
+    let sad = uncut_whole_sad(plane, s, src, mv);
     let mut best = DiamondResult {
         mv: mv,
         sad: sad,

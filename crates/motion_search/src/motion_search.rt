@@ -6,9 +6,12 @@ use crate::refusals::off_grid;
 use crate::refusals::out_of_range;
 use crate::sads::any_sad;
 use crate::sads::block_sad;
-use crate::sads::whole_sad;
+use crate::sads::uncut_block_sad;
+use crate::sads::uncut_whole_sad;
 use fetch::bad_size;
 use fetch::short_plane;
+use prediction::ceiling::Ceiled;
+use prediction::ceiling::NO_CEILING;
 use prediction::motion_vector::Mv;
 use search::DiamondAnswer;
 use search::SadAnswer;
@@ -20,7 +23,8 @@ ghost use Prim.Native.Nat.{_*_, _≤_, _<_};
 ghost use lib.ListN.{length};
 ghost use Rattle.laws.specs.Outcome.{firstOf};
 ghost use Rattle.prediction.specs.Plane.{lumaPlane};
-ghost use Rattle.search.specs.Sad.{sad16, costOf};
+ghost use Rattle.prediction.specs.Ceiled.{CeiledIs};
+ghost use Rattle.search.specs.Sad.{sad16, rowSad, costOf};
 ghost use Rattle.search.specs.Search.{diamond, refine};
 ghost use Rattle.search.specs.Refusals.{placeLines, vectorLines, gridLines, sadOutcome, searchOutcome, diamondOutcome};
 ghost use Rattle.search.specs.Internal.{planeOf, costAt};
@@ -37,11 +41,18 @@ pub const HALF_PIXEL_STEP: i16 = 2;
 
 pub const QUARTER_PIXEL_STEP: i16 = 1;
 
+// The SAD of two blocks of 16 by 16 samples up to a ceiling: the lesser of the two, and the number of rows measured.
+pub fn block_sad_16x16_up_to(src: &[u8; 256], pred: &[u8; 256], ceiling: u32) -> Ceiled
+    ensures { λ r. ⌜ CeiledIs (rowSad (now (src .entry)) (now (pred .entry))) 16 ceiling r ⌝ }
+{
+    block_sad(src, pred, ceiling)
+}
+
 // The SAD of two blocks of 16 by 16 samples.
 pub fn block_sad_16x16(src: &[u8; 256], pred: &[u8; 256]) -> u32
     ensures { λ r. ⌜ r ≡ sad16 (now (src .entry)) (now (pred .entry)) ⌝ }
 {
-    block_sad(src, pred)
+    uncut_block_sad(src, pred)
 }
 
 // The first refusal that applies to a vector on the grid of n, whose components are multiples of n; where none does, 0 for the SAD.
@@ -78,7 +89,8 @@ fn sad_luma(plane: &[u8], s: Site, src: &[u8], mv: Mv, n: u32) -> SadAnswer
 {
     let first = checked(plane, s, mv, n);
     if let SadAnswer::Sad(_) = first {
-        SadAnswer::Sad(any_sad(plane, s, src, mv))
+        let read = any_sad(plane, s, src, mv, NO_CEILING);
+        SadAnswer::Sad(read.sad)
     } else {
         first
     }
@@ -110,7 +122,7 @@ pub fn mb_luma_sad_at_whole_mv(
     };
     let first = checked(plane, s, mv, WHOLE_PIXEL_STEP as u32);
     if let SadAnswer::Sad(_) = first {
-        SadAnswer::Sad(whole_sad(plane, s, src_y, mv))
+        SadAnswer::Sad(uncut_whole_sad(plane, s, src_y, mv))
     } else {
         first
     }

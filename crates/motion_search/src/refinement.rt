@@ -10,16 +10,19 @@ ghost use Rattle.laws.specs.Best.{betterOf};
 ghost use Rattle.search.specs.Search.{refine};
 ghost use Rattle.search.specs.Internal.{costAt, Ready, Room};
 
-// The better of the best so far and a vector: only a smaller SAD replaces the best.
+// The better of the best so far and a vector, measured up to the best SAD: only a smaller SAD replaces the best.
 fn try_mv(plane: &[u8], s: Site, src: &[u8], best: SearchResult, mv: Mv) -> SearchResult
     requires { ⌜ Ready (now plane) s (now src) ⌝ }
     requires { ⌜ best .sad ≡ costAt (now plane) s (now src) (best .mv) ⌝ }
     ensures { λ r. ⌜ r .mv ≡ betterOf (costAt (now (plane .entry)) s (now (src .entry))) (best .mv) mv ⌝ }
     ensures { λ r. ⌜ r .sad ≡ costAt (now (plane .entry)) s (now (src .entry)) (r .mv) ⌝ }
 {
-    let sad = any_sad(plane, s, src, mv);
-    if sad < best.sad {
-        return SearchResult { mv: mv, sad: sad };
+    let read = any_sad(plane, s, src, mv, best.sad);
+    if read.sad < best.sad {
+        return SearchResult {
+            mv: mv,
+            sad: read.sad,
+        };
     }
     best
 }

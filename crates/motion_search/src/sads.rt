@@ -1,6 +1,8 @@
 // Sums of absolute differences (SADs) of macroblocks.
 use fetch::fetch_luma_mb_halo;
 use fetch::fetch_luma_mb_whole_pixel;
+use prediction::ceiling::Ceiled;
+use prediction::ceiling::NO_CEILING;
 use prediction::inverse_transform::abs_diff;
 use prediction::motion_comp::fraction;
 use prediction::motion_comp::stored_luma_mv;
@@ -9,15 +11,17 @@ use prediction::motion_vector::Mv;
 use search::Site;
 use sixtap::sixtap_mb_luma;
 ghost use mathlib.Core.Path.{_≡_};
-ghost use Prim.Native.Nat.{_+_, _-_, _*_, _/_, _%_, _≤_, _<_};
+ghost use Prim.Native.Nat.{_+_, _-_, _*_, _≤_, _<_};
 ghost use mathlib.Core.Bool.{true};
 ghost use lib.ListN.{length, getD};
 ghost use Rattle.laws.specs.Signed.{above, below};
 ghost use Rattle.laws.specs.Sums.{sumBelow};
 ghost use Rattle.prediction.specs.Samples.{distance};
 ghost use Rattle.prediction.specs.Vector.{wholeOf};
-ghost use Rattle.search.specs.Sad.{sad16};
-ghost use Rattle.search.specs.Internal.{costAt, copiedAt, predictedFrom, Ready, Copied, Inside, twoApart};
+ghost use Rattle.prediction.specs.Ceiled.{CeiledIs};
+ghost use Rattle.prediction.specs.Internal.{rowApart};
+ghost use Rattle.search.specs.Sad.{sad16, rowSad};
+ghost use Rattle.search.specs.Internal.{costAt, costRow, copiedAt, predictedFrom, Ready, Copied, Inside, twoApart};
 
 // The SAD of two rows of a block, which follow one another, and of two rows of a plane.
 fn two_rows_sad(a: &[u8], b: &[u8], c: &[u8]) -> u32
@@ -33,10 +37,10 @@ fn two_rows_sad(a: &[u8], b: &[u8], c: &[u8]) -> u32
     sum
 }
 
-// The SAD of a block and of 16 rows of 16 samples of a plane, from a place on: two rows a turn.
-fn rows_sad(src: &[u8], plane: &[u8], at: usize, stride: usize) -> u32
+// The SAD of a block and of 16 rows of 16 samples of a plane, from a place on: two rows a turn, none held against a ceiling.
+fn all_rows_sad(src: &[u8], plane: &[u8], at: usize, stride: usize) -> u32
     requires { ⌜ (length (now src) ≡ 256) × (at + 15 * stride + 16 ≤ length (now plane)) ⌝ }
-    ensures { λ r. ⌜ r ≡ sumBelow (λ i. distance (getD (now (src .entry)) i 0) (getD (now (plane .entry)) (at + i / 16 * stride + i % 16) 0)) 256 ⌝ }
+    ensures { λ r. ⌜ (r ≡ sumBelow (rowApart (now (src .entry)) 0 16 (now (plane .entry)) at stride) 16) × (r ≤ 65280) ⌝ }
 {
     let mut sum: u32 = 0;
     let mut r = 0;
@@ -50,24 +54,101 @@ fn rows_sad(src: &[u8], plane: &[u8], at: usize, stride: usize) -> u32
     sum
 }
 
-// The SAD of two blocks.
-pub(crate) fn block_sad(src: &[u8], pred: &[u8]) -> u32
+// The SAD of two rows of 16.
+fn row_sad(a: &[u8], b: &[u8]) -> u32
+    requires { ⌜ (length (now a) ≡ 16) × (length (now b) ≡ 16) ⌝ }
+    ensures { λ r. ⌜ r ≡ sumBelow (λ k. distance (getD (now (a .entry)) k 0) (getD (now (b .entry)) k 0)) 16 ⌝ }
+{
+    let mut sum: u32 = 0;
+    let mut k = 0;
+    while k < 16 {
+        sum += abs_diff(a[k], b[k]) as u32;
+        k += 1;
+    }
+    sum
+}
+
+// The SAD of row r of a block and of the rows of a plane.
+fn row_at(src: &[u8], plane: &[u8], at: usize, stride: usize, r: usize) -> u32
+    requires { ⌜ (length (now src) ≡ 256) × (at + 15 * stride + 16 ≤ length (now plane)) × (r < 16) ⌝ }
+    ensures { λ s. ⌜ s ≡ rowApart (now (src .entry)) 0 16 (now (plane .entry)) at stride r ⌝ }
+{
+    let i = r * 16;
+    let j = at + r * stride;
+    row_sad(&src[i..i + 16], &plane[j..j + 16])
+}
+
+// The SAD of the same rows up to a ceiling: each row, once measured, is held against what is left of it. Two rows a turn.
+fn rows_up_to(src: &[u8], plane: &[u8], at: usize, stride: usize, ceiling: u32) -> Ceiled
+    requires { ⌜ (length (now src) ≡ 256) × (at + 15 * stride + 16 ≤ length (now plane)) ⌝ }
+    ensures { λ r. ⌜ CeiledIs (rowApart (now (src .entry)) 0 16 (now (plane .entry)) at stride) 16 ceiling r ⌝ }
+{
+    let mut left = ceiling;
+    let mut r: usize = 0;
+    while r < 16 {
+        let one = row_at(src, plane, at, stride, r);
+        if left <= one {
+            return Ceiled {
+                sad: ceiling,
+                rows: r as u32 + 1,
+            };
+        }
+        let rest = left - one;
+        let two = row_at(src, plane, at, stride, r + 1);
+        if rest <= two {
+            return Ceiled {
+                sad: ceiling,
+                rows: r as u32 + 2,
+            };
+        }
+        left = rest - two;
+        r += 2;
+    }
+    Ceiled {
+        sad: ceiling - left,
+        rows: 16,
+    }
+}
+
+// The same; where no sum reaches the ceiling, no row is held against it.
+fn rows_sad(src: &[u8], plane: &[u8], at: usize, stride: usize, ceiling: u32) -> Ceiled
+    requires { ⌜ (length (now src) ≡ 256) × (at + 15 * stride + 16 ≤ length (now plane)) ⌝ }
+    ensures { λ r. ⌜ CeiledIs (rowApart (now (src .entry)) 0 16 (now (plane .entry)) at stride) 16 ceiling r ⌝ }
+{
+    if NO_CEILING <= ceiling {
+        let sum = all_rows_sad(src, plane, at, stride);
+        return Ceiled { sad: sum, rows: 16 };
+    }
+    rows_up_to(src, plane, at, stride, ceiling)
+}
+
+// The SAD of two blocks up to a ceiling.
+pub(crate) fn block_sad(src: &[u8], pred: &[u8], ceiling: u32) -> Ceiled
+    requires { ⌜ (length (now src) ≡ 256) × (length (now pred) ≡ 256) ⌝ }
+    ensures { λ r. ⌜ CeiledIs (rowSad (now (src .entry)) (now (pred .entry))) 16 ceiling r ⌝ }
+{
+    rows_sad(src, pred, 0, 16, ceiling)
+}
+
+// The SAD of two blocks, not cut short: no sum reaches this ceiling.
+pub(crate) fn uncut_block_sad(src: &[u8], pred: &[u8]) -> u32
     requires { ⌜ (length (now src) ≡ 256) × (length (now pred) ≡ 256) ⌝ }
     ensures { λ r. ⌜ r ≡ sad16 (now (src .entry)) (now (pred .entry)) ⌝ }
 {
-    rows_sad(src, pred, 0, 16)
+    let read = block_sad(src, pred, NO_CEILING);
+    read.sad
 }
 
 // The SAD at a vector in eighths whose fractions are not read, by the fetch: the block may lie anywhere.
-fn fetched_sad(plane: &[u8], s: Site, src: &[u8], eighths: Mv) -> u32
+fn fetched_sad(plane: &[u8], s: Site, src: &[u8], eighths: Mv, ceiling: u32) -> Ceiled
     requires { ⌜ Ready (now plane) s (now src) ⌝ }
-    ensures { λ r. ⌜ r ≡ sad16 (now (src .entry)) (copiedAt (now (plane .entry)) s eighths) ⌝ }
+    ensures { λ r. ⌜ CeiledIs (rowSad (now (src .entry)) (copiedAt (now (plane .entry)) s eighths)) 16 ceiling r ⌝ }
 {
     let x = 16 * s.column;
     let y = 16 * s.row;
     let fetched = fetch_luma_mb_whole_pixel(plane, s.stride, s.width, s.height, x, y, eighths);
     let block = fetched.block;
-    block_sad(src, &block)
+    block_sad(src, &block, ceiling)
 }
 
 // The first coordinate of a macroblock moved by the whole offset of a component in eighths, plus 4096.
@@ -90,10 +171,10 @@ fn lies_inside(start: usize, n: usize) -> bool
 }
 
 // The SAD at a vector without fractions: rows of the plane where the block lies inside.
-pub(crate) fn whole_sad(plane: &[u8], s: Site, src: &[u8], mv: Mv) -> u32
+pub(crate) fn whole_sad(plane: &[u8], s: Site, src: &[u8], mv: Mv, ceiling: u32) -> Ceiled
     requires { ⌜ Ready (now plane) s (now src) ⌝ }
     requires { ⌜ Copied mv ⌝ }
-    ensures { λ r. ⌜ r ≡ costAt (now (plane .entry)) s (now (src .entry)) mv ⌝ }
+    ensures { λ r. ⌜ CeiledIs (costRow (now (plane .entry)) s (now (src .entry)) mv) 16 ceiling r ⌝ }
 {
     let eighths = stored_luma_mv(mv);
     let left = displaced(s.column, eighths.col);
@@ -101,16 +182,26 @@ pub(crate) fn whole_sad(plane: &[u8], s: Site, src: &[u8], mv: Mv) -> u32
     if lies_inside(left, s.width) {
         if lies_inside(top, s.height) {
             let at = (top - 4096) * s.stride + (left - 4096);
-            return rows_sad(src, plane, at, s.stride);
+            return rows_sad(src, plane, at, s.stride, ceiling);
         }
     }
-    fetched_sad(plane, s, src, eighths)
+    fetched_sad(plane, s, src, eighths, ceiling)
+}
+
+// The same, not cut short: no sum reaches this ceiling.
+pub(crate) fn uncut_whole_sad(plane: &[u8], s: Site, src: &[u8], mv: Mv) -> u32
+    requires { ⌜ Ready (now plane) s (now src) ⌝ }
+    requires { ⌜ Copied mv ⌝ }
+    ensures { λ r. ⌜ r ≡ costAt (now (plane .entry)) s (now (src .entry)) mv ⌝ }
+{
+    let read = whole_sad(plane, s, src, mv, NO_CEILING);
+    read.sad
 }
 
 // The SAD at a vector in eighths, by the halo and the six-tap filter.
-fn filtered_sad(plane: &[u8], s: Site, src: &[u8], eighths: Mv) -> u32
+fn filtered_sad(plane: &[u8], s: Site, src: &[u8], eighths: Mv, ceiling: u32) -> Ceiled
     requires { ⌜ Ready (now plane) s (now src) ⌝ }
-    ensures { λ r. ⌜ r ≡ sad16 (now (src .entry)) (predictedFrom (now (plane .entry)) s eighths) ⌝ }
+    ensures { λ r. ⌜ CeiledIs (rowSad (now (src .entry)) (predictedFrom (now (plane .entry)) s eighths)) 16 ceiling r ⌝ }
 {
     let x = 16 * s.column;
     let y = 16 * s.row;
@@ -118,19 +209,19 @@ fn filtered_sad(plane: &[u8], s: Site, src: &[u8], eighths: Mv) -> u32
     let halo = fetched.halo;
     let filtered = sixtap_mb_luma(halo, fraction(eighths.col), fraction(eighths.row));
     let block = filtered.block;
-    block_sad(src, &block)
+    block_sad(src, &block, ceiling)
 }
 
 // The SAD at any vector: whole vectors copy, others are filtered.
-pub(crate) fn any_sad(plane: &[u8], s: Site, src: &[u8], mv: Mv) -> u32
+pub(crate) fn any_sad(plane: &[u8], s: Site, src: &[u8], mv: Mv, ceiling: u32) -> Ceiled
     requires { ⌜ Ready (now plane) s (now src) ⌝ }
-    ensures { λ r. ⌜ r ≡ costAt (now (plane .entry)) s (now (src .entry)) mv ⌝ }
+    ensures { λ r. ⌜ CeiledIs (costRow (now (plane .entry)) s (now (src .entry)) mv) 16 ceiling r ⌝ }
 {
     let eighths = stored_luma_mv(mv);
     if fraction(eighths.col) == 0 {
         if fraction(eighths.row) == 0 {
-            return whole_sad(plane, s, src, mv);
+            return whole_sad(plane, s, src, mv, ceiling);
         }
     }
-    filtered_sad(plane, s, src, eighths)
+    filtered_sad(plane, s, src, eighths, ceiling)
 }

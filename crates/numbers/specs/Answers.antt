@@ -9,6 +9,7 @@ use lib.ListN.{getD}
 use lib.IntN.{ℤ, pos}
 use Rattle.laws.specs.Outcome.{Outcome, refused, accepted, Line, firstOf, after}
 use Rattle.prediction.specs.declared.motion_vector.Mv.{Mv}
+use Rattle.prediction.specs.declared.ceiling.Ceiled as measured
 use Rattle.prediction.specs.declared.motion_comp.FilterSet.{FilterSet}
 use Rattle.prediction.specs.declared.motion_comp.FilterSet.the-variants.{Sixtap, Bilinear}
 use Rattle.search.specs.declared.SearchResult.{SearchResult}
@@ -19,6 +20,7 @@ use Rattle.numbers.specs.declared.answers.Status.{Status}
 use Rattle.numbers.specs.declared.answers.Sample.{Sample}
 use Rattle.numbers.specs.declared.answers.Vector.{Vector}
 use Rattle.numbers.specs.declared.answers.Sad.{Sad}
+use Rattle.numbers.specs.declared.answers.Ceiled.{Ceiled}
 use Rattle.numbers.specs.declared.answers.Search.{Search}
 use Rattle.numbers.specs.declared.answers.Diamond.{Diamond}
 use Rattle.numbers.specs.declared.answers.Build.{Build}
@@ -56,6 +58,10 @@ vectorNumbers v = record { refusal = 0; row = v .row; col = v .col }
 abbrev pub sadNumbers : Outcome ℕ → Sad
 sadNumbers (accepted n) = record { refusal = 0; sad = n }
 sadNumbers (refused k values) = record { refusal = k; sad = 0 }
+
+-- a SAD up to a ceiling is never refused
+abbrev pub ceiledNumbers : measured.Ceiled → Ceiled
+ceiledNumbers r = record { refusal = 0; sad = r .sad; rows = r .rows }
 
 abbrev pub searchNumbers : Outcome SearchResult → Search
 searchNumbers (accepted b) = record { refusal = 0; row = b .mv .row; col = b .mv .col; sad = b .sad }

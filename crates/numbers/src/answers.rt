@@ -28,6 +28,14 @@ pub struct Sad {
     pub sad: u32,
 }
 
+// The SAD of two blocks up to a ceiling, and the rows measured; never refused.
+#[repr(C)]
+pub struct Ceiled {
+    pub refusal: u32,
+    pub sad: u32,
+    pub rows: u32,
+}
+
 // The best vector of a refinement and its SAD.
 #[repr(C)]
 pub struct Search {

@@ -2,6 +2,7 @@
 pub mod answers;
 
 use crate::answers::Build;
+use crate::answers::Ceiled;
 use crate::answers::Diamond;
 use crate::answers::Sad;
 use crate::answers::Sample;
@@ -25,7 +26,7 @@ ghost use Rattle.fetch.specs.Refusals.{fetchOutcome};
 ghost use Rattle.search.specs.Refusals.{sadOutcome, searchOutcome, diamondOutcome};
 ghost use Rattle.window.specs.Refusals.{checkedOutcome, refusalOutcome};
 ghost use Rattle.denoiser.specs.Build.{buildOutcome};
-ghost use Rattle.numbers.specs.Answers.{bit, filterNumber, numberOf, vectorNumbers, sampleNumbers, sadNumbers, searchNumbers, diamondNumbers, build, buildNumbers, checkNumbers};
+ghost use Rattle.numbers.specs.Answers.{bit, filterNumber, numberOf, vectorNumbers, sampleNumbers, sadNumbers, ceiledNumbers, searchNumbers, diamondNumbers, build, buildNumbers, checkNumbers};
 
 // A truth value as 1 or 0.
 pub fn bit_of(b: bool) -> u8
@@ -103,6 +104,17 @@ pub fn sad_numbers(answer: SadAnswer) -> Sad
             refusal: 12,
             sad: 0,
         },
+    }
+}
+
+// The numbers of a SAD up to a ceiling.
+pub fn ceiled_numbers(read: prediction::ceiling::Ceiled) -> Ceiled
+    ensures { λ r. ⌜ r ≡ ceiledNumbers read ⌝ }
+{
+    Ceiled {
+        refusal: 0,
+        sad: read.sad,
+        rows: read.rows,
     }
 }
 

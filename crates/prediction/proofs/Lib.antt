@@ -1,2 +1,4 @@
 pub mod Edges
+pub mod Ceilings
+pub mod Rows
 mod Cells

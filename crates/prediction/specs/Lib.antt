@@ -4,3 +4,5 @@ pub mod Plane
 pub mod Filter
 pub mod Prediction
 pub mod Refusals
+pub mod Ceiled
+pub mod Internal

@@ -2,6 +2,7 @@ pub mod Worked
 pub mod Accepted
 pub mod Rows
 pub mod SadLaws
+pub mod Ceilings
 pub mod Grid
 pub mod Checks
 pub mod Descent

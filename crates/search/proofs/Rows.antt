@@ -1,68 +1,67 @@
--- A sum over a block of 16 by 16 samples, row by row. Assumes nothing.
-use mathlib.Core.Path.{_≡_, refl, ap}
+-- The SAD of a macroblock by its rows, wherever they stand. Assumes nothing.
+use mathlib.Core.Path.{_≡_, sym, ap, _∙_}
 use mathlib.Core.List.{List}
-use Prim.Native.Nat.{ℕ, _+_, _*_, _/_, _%_, _≤_, _<_}
-use native.Mathlib.Nat.{mul-le-mul-right, add-mul}
+use Prim.Native.Nat.{ℕ, _+_, _*_, _<_}
+use native.Mathlib.Nat.{add-mul}
 use native.Mathlib.Omega.{arith}
 use lib.ListN.{getD}
 use borrow.Rule.Slice.PartMut.{midOf}
 use Rattle.laws.specs.Sums.{sumBelow}
-use Rattle.laws.proofs.Sums.{sum-same, sum-split, sum-plus}
+use Rattle.laws.proofs.Sums.{sum-same, sum-more, sum-plus, sum-rows}
 use Rattle.laws.proofs.Slices.{mid-at}
 use Rattle.prediction.specs.Samples.{distance}
-use Rattle.search.specs.Sad.{sad16}
+use Rattle.prediction.specs.Internal.{rowApart}
+use Rattle.prediction.proofs.Rows.{row-is}
+use Rattle.search.specs.Sad.{sad16, rowSad}
 use Rattle.search.specs.Internal.{twoApart}
 
--- row r ends within the list
-pub row-ends : (at stride r n : ℕ) → at + 15 * stride + 16 ≤ n → r < 16 → at + r * stride + 16 ≤ n
-row-ends at stride r n h l =
-    let g : r ≤ 15 = omega arith in
-    omega (arith, mul-le-mul-right stride g)
+-- the SAD of two blocks is the sum of their 16 rows
+pub sad-rows : (src block : List ℕ) → sad16 src block ≡ sumBelow (rowSad src block) 16
+unfolding sad16 rowSad
+sad-rows src block = sum-rows (λ i. distance (getD src i 0) (getD block i 0)) 16 16
 
--- the difference at place i of a block and of the rows of a plane
-abbrev pub apart : List ℕ → List ℕ → ℕ → ℕ → ℕ → ℕ
-apart src plane at stride i = distance (getD src i 0) (getD plane (at + i / 16 * stride + i % 16) 0)
+-- rows that follow one another are the block's own
+pub row-packed : (src block : List ℕ) (j : ℕ) → rowApart src 0 16 block 0 16 j ≡ rowSad src block j
+unfolding rowApart rowSad
+row-packed src block j =
+    let z : 0 + j * 16 ≡ j * 16 = omega arith in
+    ap (λ (n : ℕ). sumBelow (λ k. distance (getD src (n + k) 0) (getD block (n + k) 0)) 16) z
 
--- two rows more
-pub rows-more : (src plane : List ℕ) (at stride r s v : ℕ) → s ≡ sumBelow (apart src plane at stride) (r * 16)
+-- a row of a block and of a plane, by the two parts that hold it
+pub row-here : (src plane : List ℕ) (at stride r : ℕ)
+    → sumBelow (λ k. distance (getD (midOf (r * 16) 16 src) k 0) (getD (midOf (at + r * stride) 16 plane) k 0)) 16 ≡ rowApart src 0 16 plane at stride r
+row-here src plane at stride r =
+    let z : 0 + r * 16 ≡ r * 16 = omega arith in
+    rw z at (row-is src 0 16 plane at stride r)
+
+-- two rows more of a block and of a plane
+pub rows-more : (src plane : List ℕ) (at stride r s v : ℕ) → s ≡ sumBelow (rowApart src 0 16 plane at stride) r
     → v ≡ sumBelow (twoApart (midOf (r * 16) 32 src) (midOf (at + r * stride) 16 plane) (midOf (at + r * stride + stride) 16 plane)) 16
-    → s + v ≡ sumBelow (apart src plane at stride) ((r + 2) * 16)
+    → s + v ≡ sumBelow (rowApart src 0 16 plane at stride) (r + 2)
+unfolding rowApart
 rows-more src plane at stride r s v e f =
-    let i-is : (r + 2) * 16 ≡ r * 16 + (16 + 16) = omega arith in
-    rw (i-is, sum-split (apart src plane at stride) (r * 16) (16 + 16), sum-split here 16 16, e, f, sum-plus one two 16)
-    (ap (λ (n : ℕ). sumBelow (apart src plane at stride) (r * 16) + n) both)
+    let split = f ∙ sum-plus one two 16 in
+    let a = sum-more (rowApart src 0 16 plane at stride) r (sumBelow one 16) s e (sum-same one _ 16 first) in
+    let b = sum-more (rowApart src 0 16 plane at stride) (r + 1) (sumBelow two 16) _ a (sum-same two _ 16 second) in
+    let both : r + 1 + 1 ≡ r + 2 = omega arith in
+    beside split ∙ (rw both at b)
   where
-    here : ℕ → ℕ
-    here k = apart src plane at stride (r * 16 + k)
-
     one : ℕ → ℕ
     one k = distance (getD (midOf (r * 16) 32 src) k 0) (getD (midOf (at + r * stride) 16 plane) k 0)
 
     two : ℕ → ℕ
     two k = distance (getD (midOf (r * 16) 32 src) (k + 16) 0) (getD (midOf (at + r * stride + stride) 16 plane) k 0)
 
-    first : (k : ℕ) → k < 16 → one k ≡ here k
+    beside : v ≡ sumBelow one 16 + sumBelow two 16 → s + v ≡ s + sumBelow one 16 + sumBelow two 16
+    beside h = omega arith
+
+    first : (k : ℕ) → k < 16 → one k ≡ distance (getD src (0 + r * 16 + k) 0) (getD plane (at + r * stride + k) 0)
     first k h =
-        let q : (r * 16 + k) / 16 ≡ r = omega arith in
-        let m : (r * 16 + k) % 16 ≡ k = omega arith in
-        rw (mid-at (r * 16) 32 src k (omega arith), mid-at (at + r * stride) 16 plane k h, q, m)
+        let z : 0 + r * 16 + k ≡ r * 16 + k = omega arith in
+        rw (z, mid-at (r * 16) 32 src k (omega arith), mid-at (at + r * stride) 16 plane k h)
 
-    second : (k : ℕ) → k < 16 → two k ≡ here (16 + k)
+    second : (k : ℕ) → k < 16 → two k ≡ distance (getD src (0 + (r + 1) * 16 + k) 0) (getD plane (at + (r + 1) * stride + k) 0)
     second k h =
-        let q : (r * 16 + (16 + k)) / 16 ≡ r + 1 = omega arith in
-        let m : (r * 16 + (16 + k)) % 16 ≡ k = omega arith in
-        let p : k + 16 ≡ 16 + k = omega arith in
+        let z : 0 + (r + 1) * 16 + k ≡ r * 16 + (k + 16) = omega arith in
         let t : at + (r + 1) * stride ≡ at + r * stride + stride = omega (arith, add-mul r 1 stride) in
-        rw (p, mid-at (r * 16) 32 src (16 + k) (omega arith), mid-at (at + r * stride + stride) 16 plane k h, q, m, t)
-
-    both : sumBelow one 16 + sumBelow two 16 ≡ sumBelow here 16 + sumBelow (λ k. here (16 + k)) 16
-    both = rw (sum-same one here 16 first, sum-same two (λ k. here (16 + k)) 16 second)
-
--- rows that follow one another are the block itself
-pub rows-packed : (src block : List ℕ) → sumBelow (apart src block 0 16) 256 ≡ sad16 src block
-unfolding sad16
-rows-packed src block =
-    sum-same _ _ 256
-    (λ i h.
-    let e : 0 + i / 16 * 16 + i % 16 ≡ i = omega arith in
-    ap (λ (n : ℕ). distance (getD src i 0) (getD block n 0)) e)
+        rw (z, t, mid-at (r * 16) 32 src (k + 16) (omega arith), mid-at (at + r * stride + stride) 16 plane k h)

@@ -12,7 +12,6 @@ use lib.ListN.{length, getD, List·getD-eq-default}
 use Rattle.laws.specs.Signed.{above, below}
 use Rattle.laws.proofs.Signed.{floor, times, diff, one-zero, less-of, less-pos, less-sum, above-less}
 use Rattle.laws.proofs.Tabulate.{length-tabulate}
-use Rattle.laws.specs.Sums.{sumBelow}
 use Rattle.laws.proofs.Sums.{sum-same, sum-most}
 use Rattle.laws.specs.Outcome.{firstOf}
 use Rattle.prediction.specs.declared.motion_vector.Mv.{Mv}
@@ -22,17 +21,17 @@ use Rattle.prediction.specs.Plane.{Samples, Plane, sampleAt}
 use Rattle.prediction.specs.Filter.{sixtap}
 use Rattle.prediction.specs.Prediction.{squareOf, macroblockOf, haloOf, offsetBy, predictedMb, filteredMb}
 use Rattle.prediction.specs.Refusals.{badOrigin, blockOf}
+use Rattle.prediction.specs.Internal.{rowApart}
 use Rattle.fetch.specs.Refusals.{fetchLines}
 use Rattle.sixtap.specs.Refusals.{filterLines}
 use Rattle.sixtap.proofs.Laws.{square-at, predicted-byte, filtered-halo, whole-copy, sample-byte}
 use Rattle.search.specs.declared.Site.{Site}
-use Rattle.search.specs.Sad.{sad16, costOf}
+use Rattle.search.specs.Sad.{sad16, rowSad, costOf}
 use Rattle.search.specs.Internal.{planeOf, costAt, copiedAt, predictedFrom, Ready, Copied, Inside}
 use Rattle.search.proofs.Accepted.{placed}
-use Rattle.search.proofs.Rows.{apart}
 
 -- one SAD of samples is at most 65280
-sad-most : (src block : List ℕ) → ((i : ℕ) → getD src i 0 < 256) → ((i : ℕ) → getD block i 0 < 256) → sad16 src block ≤ 65280
+pub sad-most : (src block : List ℕ) → ((i : ℕ) → getD src i 0 < 256) → ((i : ℕ) → getD block i 0 < 256) → sad16 src block ≤ 65280
 unfolding sad16
 sad-most src block s b = sum-most _ 256 255 (λ i. omega (arith, s i, b i))
 
@@ -53,11 +52,10 @@ cost-most plane column row src v h =
     sad-most src _ h (square-byte _ (λ x y. predicted-byte sixtap _ _ _ x y))
 
 -- without fractions the prediction is a copy
-pub cost-copied : (bytes : List ℕ) (s : Site) (src : List ℕ) (v : Mv) → Copied v → ((k : ℕ) → getD bytes k 0 < 256)
-    → sad16 src (copiedAt bytes s (storedMv v)) ≡ costAt bytes s src v
-unfolding costOf predictedMb
-cost-copied bytes s src v c h =
-    rw (c .row, c .col) (ap (sad16 src) (sym (whole-copy _ (λ x y. sample-byte (planeOf bytes s) h _ _))))
+pub copied-is : (bytes : List ℕ) (s : Site) (v : Mv) → Copied v → ((k : ℕ) → getD bytes k 0 < 256)
+    → copiedAt bytes s (storedMv v) ≡ predictedFrom bytes s (storedMv v)
+unfolding predictedMb
+copied-is bytes s v c h = rw (c .row, c .col) (sym (whole-copy _ (λ x y. sample-byte (planeOf bytes s) h _ _)))
 
 -- the sixteen coordinates of a displaced macroblock; inside, nothing is cut
 coordinate : (mb k r : ℕ) (v : ℤ) → r + below (wholeOf v) ≡ 16 * mb + 4096 + above (wholeOf v) → 4096 ≤ r
@@ -91,9 +89,19 @@ module _ (bytes : List ℕ) (s : Site) (src : List ℕ) (v : Mv) (left top : ℕ
       )
       (ap (λ (n : ℕ). getD bytes n 0) (placing (top - 4096) (s .stride) (left - 4096) (i / 16) (i % 16)))
 
-  pub sad-inside : sumBelow (apart src bytes ((top - 4096) * s .stride + (left - 4096)) (s .stride)) 256 ≡ sad16 src (copiedAt bytes s v)
-  unfolding sad16
-  sad-inside = sum-same _ _ 256 (λ i h. ap (distance (getD src i 0)) (sample-inside i h))
+  pub row-inside : (j : ℕ) → j < 16
+      → rowApart src 0 16 bytes ((top - 4096) * s .stride + (left - 4096)) (s .stride) j ≡ rowSad src (copiedAt bytes s v) j
+  unfolding rowApart rowSad
+  row-inside j h = sum-same _ _ 16 (λ k l. at k l)
+    where
+      at : (k : ℕ) → k < 16
+          → distance (getD src (0 + j * 16 + k) 0) (getD bytes ((top - 4096) * s .stride + (left - 4096) + j * s .stride + k) 0)
+          ≡ distance (getD src (j * 16 + k) 0) (getD (copiedAt bytes s v) (j * 16 + k) 0)
+      at k l =
+          let z : 0 + j * 16 + k ≡ j * 16 + k = omega arith in
+          let q : (j * 16 + k) / 16 ≡ j = omega arith in
+          let m : (j * 16 + k) % 16 ≡ k = omega arith in
+          rw z (ap (distance (getD src (j * 16 + k) 0)) (rw (q, m) at (sample-inside (j * 16 + k) (omega arith))))
 
 -- the last row ends within the plane
 pub ends-inside : (bytes : List ℕ) (s : Site) (left top : ℕ) → Inside left (s .width) → Inside top (s .height)

@@ -1,7 +1,7 @@
 -- The diamond as code makes it: the ways out of one try, and the descent under way, over any cost. Assumes nothing.
 use mathlib.Core.Path.{_≡_, ap, _∙_}
 use mathlib.Core.Bool.{true, false}
-use Prim.Native.Nat.{ℕ, suc, _+_, _-_, _*_, _≤_, _<_}
+use Prim.Native.Nat.{ℕ, suc, _+_, _-_, _*_, _≤_, _<_, min}
 use native.Mathlib.Omega.{arith}
 use borrow.Author.Tests.{lt-ltb, le-ltb}
 use lib.Dec.{ltb}
@@ -18,17 +18,20 @@ module _ (cost : Mv → ℕ) (dr dc : ℤ) (b : DiamondResult) (n : Mv) (is : n 
   unfolding tried
   tried-skipped e = simp (rw is at e)
 
-  module _ (sad : ℕ) (e : sameMv n (b .mv) ≡ false) (m : sad ≡ cost n) where
+  -- what is read of it is the lesser of its cost and the best SAD
+  module _ (sad : ℕ) (e : sameMv n (b .mv) ≡ false) (m : sad ≡ min (cost n) (b .sad)) where
     pub tried-better : sad < b .sad → record { mv = n; sad = sad; sads = b .sads + 1; rounds = b .rounds } ≡ tried cost dr dc b
     unfolding tried
     tried-better h =
-        let t : ltb (cost (stepped dr dc (b .mv))) (b .sad) ≡ true = rw (m, is) at (lt-ltb sad (b .sad) h) in
-        rw (m, is, rw is at e, t)
+        let c : sad ≡ cost n = omega arith in
+        let t : ltb (cost (stepped dr dc (b .mv))) (b .sad) ≡ true = rw (c, is) at (lt-ltb sad (b .sad) h) in
+        rw (c, is, rw is at e, t)
 
     pub tried-worse : b .sad ≤ sad → record { mv = b .mv; sad = b .sad; sads = b .sads + 1; rounds = b .rounds } ≡ tried cost dr dc b
     unfolding tried
     tried-worse h =
-        let t : ltb (cost (stepped dr dc (b .mv))) (b .sad) ≡ false = rw (m, is) at (le-ltb sad (b .sad) h) in
+        let c : b .sad ≤ cost n = omega arith in
+        let t : ltb (cost (stepped dr dc (b .mv))) (b .sad) ≡ false = rw is at (le-ltb (cost n) (b .sad) c) in
         rw (rw is at e, t)
 
 -- the descent from s under way: what is left of it gives what the whole gives, and both counts are small

@@ -8,7 +8,7 @@ use lib.ListN.{length, getD}
 use Rattle.laws.specs.Signed.{above, below}
 use Rattle.prediction.specs.declared.motion_vector.Mv.{Mv}
 use Rattle.prediction.specs.Samples.{distance}
-use Rattle.prediction.specs.Vector.{doubled, fractionOf}
+use Rattle.prediction.specs.Vector.{doubled, storedMv, fractionOf}
 use Rattle.prediction.specs.Plane.{Plane, lumaPlane, sampleAt}
 use Rattle.prediction.specs.Filter.{sixtap}
 use Rattle.prediction.specs.Prediction.{macroblockOf, offsetBy, predictedMb}
@@ -16,7 +16,7 @@ use Rattle.prediction.specs.Refusals.{badSize, shortPlane}
 use Rattle.search.specs.declared.Site.{Site}
 use Rattle.search.specs.declared.DiamondResult.{DiamondResult}
 use Rattle.search.specs.Refusals.{badMacroblock}
-use Rattle.search.specs.Sad.{costOf}
+use Rattle.search.specs.Sad.{rowSad, costOf}
 
 -- the reference plane of a site, and the cost of a vector there
 abbrev pub planeOf : List ℕ → Site → Plane
@@ -31,6 +31,10 @@ copiedAt bytes s v = macroblockOf (offsetBy (16 * s .column) (16 * s .row) v (sa
 
 abbrev pub predictedFrom : List ℕ → Site → Mv → List ℕ
 predictedFrom bytes s v = predictedMb sixtap (sampleAt (planeOf bytes s)) (16 * s .column) (16 * s .row) v
+
+-- row j of the cost of a vector at a site
+abbrev pub costRow : List ℕ → Site → List ℕ → Mv → ℕ → ℕ
+costRow bytes s src v = rowSad src (predictedFrom bytes s (storedMv v))
 
 -- none of 8, 9 and 10 applies, and the source is a block
 pub record Ready (bytes : List ℕ) (s : Site) (src : List ℕ) : Type 0 where

@@ -7,7 +7,8 @@ use lib.ListN.{getD}
 use Rattle.prediction.specs.Samples.{distance}
 use Rattle.laws.specs.Sums.{sumBelow}
 use Rattle.laws.proofs.Sums.{sum-same}
-use Rattle.denoiser.proofs.Ceilings.{same-cost}
+use Rattle.prediction.specs.Internal.{rowApart}
+use Rattle.prediction.proofs.Ceilings.{same-rows}
 use borrow.Author.Needs.{needs}
 use Rattle.arnr.proofs.sad.placed_sad.Statement.{statement}
 use Rattle.arnr.proofs.sad.placed_sad.Tie as tie
@@ -37,12 +38,13 @@ inner-sad-requires : tie.Need-inner-sad-requires
 inner-sad-requires c κs = search needs
 
 returns : tie.Need-returns
+unfolding rowApart
 returns c =
     let a = c .before .before .before .args in
-    same-cost (a .ceiling) _ _ _
-    (sum-same _ _ 16 (λ j h. sum-same _ _ 16 (λ k l.
+    same-rows _ _ 16 (a .ceiling) _
+    (λ j h. sum-same _ _ 16 (λ k l.
     ap (λ (t : ℕ). distance (getD (a .centre .now) t 0) (getD (a .bytes .now) (a .start + a .top * a .stride + a .left + j * a .stride + k) 0)) (moved-2 (a .y) (a .columns) (a .x) j k)
-    ∙ ap (λ (t : ℕ). distance (getD (a .centre .now) ((a .y + j) * a .columns + (a .x + k)) 0) (getD (a .bytes .now) t 0)) (moved (a .start) (a .top) (a .stride) (a .left) j k))))
+    ∙ ap (λ (t : ℕ). distance (getD (a .centre .now) ((a .y + j) * a .columns + (a .x + k)) 0) (getD (a .bytes .now) t 0)) (moved (a .start) (a .top) (a .stride) (a .left) j k)))
     (c .inner-sad .ensures)
 
 pub placed-sad-spec : {M : Type 1} → statement M

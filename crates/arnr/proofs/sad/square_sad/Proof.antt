@@ -1,5 +1,5 @@
 use native.Mathlib.Omega.{arith}
-use mathlib.Core.Path.{_≡_, ap, _∙_, sym}
+use mathlib.Core.Path.{_≡_, ap, _∙_, sym, subst}
 use mathlib.Core.List.{List}
 use Prim.Native.Nat.{ℕ, _+_, _-_, _*_, _<_, _≤_, min}
 use Rattle.laws.specs.Signed.{above, below}
@@ -9,15 +9,15 @@ use lib.ListN.{getD}
 use mir.Facts.{toZ-ofZ}
 use Rattle.prediction.specs.Samples.{distance}
 use Rattle.prediction.specs.Plane.{sampleAt, nearestIn}
+use Rattle.prediction.specs.Ceiled.{CeiledIs}
 use Rattle.denoiser.specs.declared.PlaneNumbers.{PlaneNumbers}
 use Rattle.denoiser.specs.declared.Block.{Block}
 use Rattle.denoiser.specs.declared.Displacement.{Displacement}
-use Rattle.denoiser.specs.Search.{sadOf}
-use Rattle.denoiser.specs.Internal.{Lies, packedPlane, lumaCost}
+use Rattle.denoiser.specs.Internal.{Lies, packedPlane, lumaRow}
 use Rattle.denoiser.proofs.Planes.{sample-below, row-below, luma-at, displaced-at, short-fits}
 use Rattle.laws.specs.Sums.{sumBelow}
 use Rattle.laws.proofs.Sums.{sum-same}
-use Rattle.denoiser.proofs.Ceilings.{same-cost}
+use Rattle.prediction.proofs.Ceilings.{same-rows}
 use borrow.Author.Needs.{needs}
 use Rattle.arnr.proofs.sad.square_sad.Statement.{statement}
 use Rattle.arnr.proofs.sad.square_sad.Tie as tie
@@ -48,16 +48,17 @@ square : (bytes centre : List ℕ) (p : PlaneNumbers) (b : Block) (d : Displacem
     → left ≡ nearestIn (p .columns) (pos (b .x) +ℤ d .dx) → left + 15 ≡ nearestIn (p .columns) (pos (b .x + 15) +ℤ d .dx)
     → top ≡ nearestIn (p .rows) (pos (b .y) +ℤ d .dy) → top + 15 ≡ nearestIn (p .rows) (pos (b .y + 15) +ℤ d .dy)
     → b .columns ≡ 16 → b .rows ≡ 16 → Lies b (p .columns) (p .rows)
-    → sumBelow (λ j. sumBelow (λ k. distance (getD centre ((b .y + j) * p .columns + (b .x + k)) 0) (getD bytes (p .start + (top + j) * p .stride + (left + k)) 0)) 16) 16
-    ≡ lumaCost centre bytes p b d
-unfolding lumaCost sadOf
-square bytes centre p b d left top l r t u c e q =
-    rw (c, e)
-    (sum-same _ _ 16 (λ j h. sum-same _ _ 16 (λ k g.
+    → (j : ℕ) → j < 16
+    → sumBelow (λ k. distance (getD centre ((b .y + j) * p .columns + (b .x + k)) 0) (getD bytes (p .start + (top + j) * p .stride + (left + k)) 0)) 16
+    ≡ lumaRow centre bytes p b d j
+unfolding lumaRow
+square bytes centre p b d left top l r t u c e q j h =
+    rw c
+    (sum-same _ _ 16 (λ k g.
     ap (λ (s : ℕ). distance s (getD bytes (p .start + (top + j) * p .stride + (left + k)) 0))
     (sym (luma-at (p .columns) (p .rows) centre (b .x + k) (b .y + j) (omega (arith, q .wide)) (omega (arith, q .high))))
     ∙ ap (λ (s : ℕ). distance (sampleAt (packedPlane 0 (p .columns) (p .rows) centre) (pos (b .x + k)) (pos (b .y + j))) s)
-    (displaced-at bytes p d (b .x + k) (b .y + j) (row (p .columns) (b .x) (d .dx) left l r k g) (row (p .rows) (b .y) (d .dy) top t u j h)))))
+    (displaced-at bytes p d (b .x + k) (b .y + j) (row (p .columns) (b .x) (d .dx) left l r k g) (row (p .rows) (b .y) (d .dy) top t u j h))))
 
 -- the last of sixteen coordinates lies in the plane
 within-row : (a z n x : ℕ) (d : ℤ) → a + 15 ≡ z → z ≡ nearestIn n (pos x +ℤ d) → 0 < n → a + 15 < n
@@ -109,9 +110,10 @@ returns c =
     let u = c .before .before .before .edge4 .ensures ∙ ap (λ (v : ℤ). nearestIn (s .args .p .rows) (pos (s .args .b .y + 15) +ℤ v)) (toZ-ofZ (short-fits (s .args .d) (s .pre .1 .1 .0) .1)) in
     let e : c .before .before .before .before .before .before .before .before .before .before .before .edge .result + 15 ≡ c .before .before .before .before .before .before .before .before .edge2 .result = c .before .before .if1 .taken in
     let g : c .before .before .before .before .before .before .edge3 .result + 15 ≡ c .before .before .before .edge4 .result = c .before .if2 .taken in
-    same-cost (s .args .ceiling) _ _ _
+    subst (λ (n : ℕ). CeiledIs (lumaRow (s .args .centre .now) (s .args .bytes .now) (s .args .p) (s .args .b) (s .args .d)) n (s .args .ceiling) (c .placed-sad .result)) (sym (s .pre .1 .0 .1))
+    (same-rows _ _ 16 (s .args .ceiling) _
     (square (s .args .bytes .now) (s .args .centre .now) (s .args .p) (s .args .b) (s .args .d) _ _ l (e ∙ r) t (g ∙ u) (s .pre .1 .0 .0) (s .pre .1 .0 .1) (s .pre .1 .0 .2))
-    (c .placed-sad .ensures)
+    (c .placed-sad .ensures))
 
 edge-sad-requires : tie.Need-edge-sad-requires
 edge-sad-requires c κs = search needs

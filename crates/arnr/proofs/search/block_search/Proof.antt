@@ -6,6 +6,7 @@ use Rattle.denoiser.specs.declared.Displacement.{Displacement}
 use Rattle.denoiser.specs.declared.Motion.{Motion}
 use Rattle.denoiser.specs.Search.{still, blockSearch}
 use Rattle.denoiser.specs.Internal.{stepBest, Reach, Measured, lumaCost}
+use Rattle.denoiser.proofs.Ceilings.{luma-whole}
 use Rattle.denoiser.proofs.Searches.{step-best-reach, search-steps, wider}
 use native.Mathlib.Omega.{arith}
 use borrow.Author.Needs.{needs}
@@ -32,8 +33,10 @@ block-sad-requires c κs = search needs
 round-requires : tie.Need-round-requires
 round-requires c κs =
     let s = c .before .before .before in
-    let e = c .block-sad .ensures in
-    (s .pre .0, (s .pre .1 .0, ((omega arith, search needs), (s .pre .1 .1, e .exact (omega (arith, e .small))))))
+    let bytes = c .before .before .shared-slice-known .given in
+    let centre = c .before .shared-slice-known2 .given in
+    let e = luma-whole _ _ _ _ _ 65281 _ (c .block-sad .ensures) (s .pre .1 .0) (λ k. omega (arith, centre k)) (λ k. omega (arith, bytes k)) (omega arith) in
+    (s .pre .0, (s .pre .1 .0, ((omega arith, search needs), (s .pre .1 .1, e))))
 
 round-requires-2 : tie.Need-round-requires-2
 round-requires-2 c κs =

@@ -21,16 +21,16 @@ abbrev μ-loop : tie.MeasureT-loop
 to-grid-requires : tie.Need-to-grid-requires Inv-loop μ-loop
 to-grid-requires c κs = search needs
 
-whole-sad-requires : tie.Need-whole-sad-requires Inv-loop μ-loop
-whole-sad-requires c κs =
+uncut-whole-sad-requires : tie.Need-uncut-whole-sad-requires Inv-loop μ-loop
+uncut-whole-sad-requires c κs =
     let s = c .before .before .before in
     (s .pre, rw (c .to-grid .ensures) (whole-copied _ (whole (s .args .center))))
 
 -- the start
-begun : (c : tie.After-whole-sad Inv-loop μ-loop)
-    → record { mv = c .before .to-grid .result; sad = c .whole-sad .result; sads = 1; rounds = 0 }
+begun : (c : tie.After-uncut-whole-sad Inv-loop μ-loop)
+    → record { mv = c .before .to-grid .result; sad = c .uncut-whole-sad .result; sads = 1; rounds = 0 }
     ≡ startAt (costAt (c .before .before .before .before .args .plane .now) (c .before .before .before .before .args .s) (c .before .before .before .before .args .src .now)) (c .before .before .before .before .args .center)
-begun c = start-at _ _ _ _ (c .before .to-grid .ensures) (c .whole-sad .ensures)
+begun c = start-at _ _ _ _ (c .before .to-grid .ensures) (c .uncut-whole-sad .ensures)
 
 loop-holds : tie.Need-loop-holds Inv-loop μ-loop
 loop-holds c =
@@ -79,7 +79,7 @@ small-diamond-spec =
     Inv-loop
     μ-loop
     to-grid-requires
-    whole-sad-requires
+    uncut-whole-sad-requires
     loop-holds
     round-requires
     returns

@@ -22,8 +22,8 @@ enum-told c = search needs
 abbrev site : (stride width height column row : ℕ) → Site
 site stride width height column row = record { stride = stride; width = width; height = height; column = column; row = row }
 
-whole-sad-requires : tie.Need-whole-sad-requires
-whole-sad-requires c κs =
+uncut-whole-sad-requires : tie.Need-uncut-whole-sad-requires
+uncut-whole-sad-requires c κs =
     let a = c .before .before .before .before .before .args in
     let e = c .before .before .before .checked in
     let t = c .before .enum-told .given .1 in
@@ -37,7 +37,7 @@ returns c =
     let a = c .before .before .before .before .before .before .args in
     let e = c .before .before .before .before .checked in
     let s = site (a .stride) (a .width) (a .height) (a .mb-col) (a .mb-row) in
-    ap accepted (c .whole-sad .ensures)
+    ap accepted (c .uncut-whole-sad .ensures)
     ∙ counts 4 (a .plane .now) s (a .mv) (e .result) _ (e .ensures) (c .before .before .enum-told .given .1) (costAt (a .plane .now) s (a .src-y .now) (a .mv))
 
 returns-2 : tie.Need-returns-2
@@ -50,4 +50,4 @@ returns-2 c =
 pub mb-luma-sad-at-whole-mv-spec : {M : Type 1} → statement M
 mb-luma-sad-at-whole-mv-spec =
     tie.close
-    (tie.spec cast-checked checked-requires enum-told whole-sad-requires returns returns-2)
+    (tie.spec cast-checked checked-requires enum-told uncut-whole-sad-requires returns returns-2)

@@ -1,8 +1,10 @@
 -- `sad_luma` meets its contract. Assumes nothing.
 use mathlib.Core.Path.{ap, _∙_}
+use native.Mathlib.Omega.{arith}
 use borrow.Author.Needs.{needs}
 use Rattle.laws.specs.Outcome.{accepted}
 use Rattle.search.specs.Internal.{costAt}
+use Rattle.search.proofs.Ceilings.{cost-whole}
 use Rattle.search.proofs.Checks.{still-refused, linesOf, ready, counts}
 use Rattle.motion_search.proofs.motion_search.sad_luma.Statement.{statement}
 use Rattle.motion_search.proofs.motion_search.sad_luma.Tie as tie
@@ -23,7 +25,7 @@ any-sad-requires c κs =
 returns : tie.Need-returns
 returns c =
     let a = c .before .before .before .before .before .before .args in
-    ap accepted (c .any-sad .ensures)
+    ap accepted (cost-whole (a .plane .now) (a .s) (a .src .now) (a .mv) 65281 _ (λ i. omega (arith, c .before .before .before .before .shared-slice-known2 .given i)) (omega arith) (c .any-sad .ensures))
     ∙ counts (a .n) (a .plane .now) (a .s) (a .mv) (c .before .before .before .checked .result) _ (c .before .before .before .checked .ensures)
     (c .before .enum-told .given .1) (costAt (a .plane .now) (a .s) (a .src .now) (a .mv))
 

@@ -6,8 +6,6 @@ use mir.Val.{SFits}
 use mir.Facts.{toZ-ofZ}
 use Rattle.prediction.specs.declared.motion_vector.Mv.{Mv}
 use Rattle.prediction.specs.Vector.{fractionOf}
-use Rattle.search.specs.Sad.{sad16, costOf}
-use Rattle.search.specs.Internal.{predictedFrom}
 use Rattle.motion_search.proofs.sads.any_sad.Statement.{statement}
 use Rattle.motion_search.proofs.sads.any_sad.Tie as tie
 
@@ -42,11 +40,7 @@ filtered-sad-requires : tie.Need-filtered-sad-requires
 filtered-sad-requires c κs = search needs
 
 returns-2 : tie.Need-returns-2
-unfolding costOf
-returns-2 c =
-    let e = c .before .before .before .before in
-    let s = e .before .before .before .args in
-    c .filtered-sad .ensures ∙ ap (λ (v : Mv). sad16 (s .src .now) (predictedFrom (s .plane .now) (s .s) v)) (e .stored-luma-mv .ensures)
+returns-2 c = rw (c .before .before .before .before .stored-luma-mv .ensures) at (c .filtered-sad .ensures)
 
 pub any-sad-spec : {M : Type 1} → statement M
 any-sad-spec =

@@ -1,8 +1,6 @@
 -- `fetched_sad` meets its contract. Assumes nothing.
-use mathlib.Core.Path.{ap, _∙_}
 use native.Mathlib.Omega.{arith}
 use borrow.Author.Needs.{needs}
-use Rattle.search.specs.Sad.{sad16}
 use Rattle.search.proofs.Accepted.{placed}
 use Rattle.search.proofs.SadLaws.{fetched-is}
 use Rattle.motion_search.proofs.sads.fetched_sad.Statement.{statement}
@@ -26,7 +24,7 @@ block-sad-requires c κs = search needs
 returns : tie.Need-returns
 returns c =
     let s = c .before .before .before .before .before .before .before .before in
-    c .block-sad .ensures ∙ ap (sad16 (s .args .src .now)) (fetched-is _ _ _ (s .pre) 256 _ _ (c .before .before .before .fetch-luma-mb-whole-pixel .ensures .beside))
+    rw (fetched-is _ _ _ (s .pre) 256 _ _ (c .before .before .before .fetch-luma-mb-whole-pixel .ensures .beside)) at (c .block-sad .ensures)
 
 pub fetched-sad-spec : {M : Type 1} → statement M
 fetched-sad-spec =

@@ -6,7 +6,6 @@ use mir.Syntax.{w16}
 use mir.Val.{SFits}
 use mir.Facts.{toZ-ofZ}
 use Rattle.prediction.specs.Vector.{fractionOf}
-use Rattle.search.specs.Sad.{sad16}
 use Rattle.search.proofs.Accepted.{placed}
 use Rattle.search.proofs.SadLaws.{fetched-is, filtered-is, predicted-is}
 use Rattle.motion_search.proofs.sads.filtered_sad.Statement.{statement}
@@ -47,10 +46,9 @@ returns c =
     let mx = c .before .before .before .before .before .before .fraction .ensures ∙ ap fractionOf (toZ-ofZ fc) in
     let my = c .before .before .before .before .fraction2 .ensures ∙ ap fractionOf (toZ-ofZ fr) in
     let halo = fetched-is _ _ _ (s .pre) 441 _ _ (h .fetch-luma-mb-halo .ensures .beside) in
-    c .block-sad .ensures
-    ∙ ap (sad16 (s .args .src .now))
-    (filtered-is (s .args .eighths .col) (s .args .eighths .row) 256 _ _ (rw (mx, my, halo) at (c .before .before .before .sixtap-mb-luma .ensures .beside))
+    rw (filtered-is (s .args .eighths .col) (s .args .eighths .row) 256 _ _ (rw (mx, my, halo) at (c .before .before .before .sixtap-mb-luma .ensures .beside))
     ∙ predicted-is (s .args .plane .now) (s .args .s) (s .args .eighths))
+    at (c .block-sad .ensures)
 
 pub filtered-sad-spec : {M : Type 1} → statement M
 filtered-sad-spec =

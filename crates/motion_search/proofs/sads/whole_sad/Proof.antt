@@ -1,17 +1,18 @@
 -- `whole_sad` meets its contract. Assumes nothing.
-use mathlib.Core.Path.{ap, _∙_}
-use Prim.Native.Nat.{_+_, _-_, _*_, _≤_}
+use Prim.Native.Nat.{ℕ, _+_, _-_, _*_, _≤_}
 use native.Mathlib.Omega.{arith}
 use borrow.Author.Needs.{needs}
 use lib.ListN.{length}
 use mir.Syntax.{w16}
 use mir.Val.{SFits}
 use mir.Facts.{toZ-ofZ}
-use Rattle.prediction.specs.declared.motion_vector.Mv.{Mv}
-use Rattle.search.specs.Sad.{sad16}
-use Rattle.search.specs.Internal.{copiedAt, Inside}
+use Rattle.prediction.specs.declared.ceiling.Ceiled.{Ceiled}
+use Rattle.prediction.specs.Ceiled.{CeiledIs}
+use Rattle.prediction.proofs.Ceilings.{same-rows}
+use Rattle.search.specs.Sad.{rowSad}
+use Rattle.search.specs.Internal.{copiedAt, costRow, Inside}
 use Rattle.search.proofs.Accepted.{placed}
-use Rattle.search.proofs.SadLaws.{cost-copied, sad-inside, ends-inside}
+use Rattle.search.proofs.SadLaws.{copied-is, row-inside, ends-inside}
 use Rattle.motion_search.proofs.sads.whole_sad.Statement.{statement}
 use Rattle.motion_search.proofs.sads.whole_sad.Tie as tie
 
@@ -63,6 +64,15 @@ rows-sad-requires : tie.Need-rows-sad-requires
 rows-sad-requires c κs =
     (c .before .before .before .before .before .before .before .before .before .before .before .before .pre .0 .source, ends (c .before))
 
+-- what is measured of the copied block is measured of the prediction
+copied : (c : tie.After-stored-luma-mv) (n : ℕ) (r : Ceiled)
+    → CeiledIs (rowSad (c .before .before .before .args .src .now) (copiedAt (c .before .before .before .args .plane .now) (c .before .before .before .args .s) (c .stored-luma-mv .result))) 16 n r
+    → CeiledIs (costRow (c .before .before .before .args .plane .now) (c .before .before .before .args .s) (c .before .before .before .args .src .now) (c .before .before .before .args .mv)) 16 n r
+copied c n r i =
+    let s = c .before .before .before in
+    rw (copied-is (s .args .plane .now) (s .args .s) (s .args .mv) (s .pre .1) (λ k. omega (arith, c .before .before .shared-slice-known .given k)))
+    at (rw (c .stored-luma-mv .ensures) at i)
+
 returns : tie.Need-returns
 returns c =
     let i = c .before .before in
@@ -73,22 +83,17 @@ returns c =
     let b = d .before .struct-told2 .given in
     let fc : SFits w16 (e .stored-luma-mv .result .col) = search needs in
     let fr : SFits w16 (e .stored-luma-mv .result .row) = search needs in
-    c .rows-sad .ensures
-    ∙ sad-inside (s .args .plane .now) (s .args .s) (s .args .src .now) (e .stored-luma-mv .result) _ _
-    (rw (toZ-ofZ fc) at (d .before .before .displaced .ensures .0)) (rw (toZ-ofZ fr) at (d .displaced2 .ensures .0)) (wide i) (high i)
-    ∙ ap (λ (v : Mv). sad16 (s .args .src .now) (copiedAt (s .args .plane .now) (s .args .s) v)) (e .stored-luma-mv .ensures)
-    ∙ cost-copied (s .args .plane .now) (s .args .s) (s .args .src .now) (s .args .mv) (s .pre .1) (λ k. omega (arith, e .before .before .shared-slice-known .given k))
+    copied e _ _
+    (same-rows _ _ 16 _ _
+    (row-inside (s .args .plane .now) (s .args .s) (s .args .src .now) (e .stored-luma-mv .result) _ _
+    (rw (toZ-ofZ fc) at (d .before .before .displaced .ensures .0)) (rw (toZ-ofZ fr) at (d .displaced2 .ensures .0)) (wide i) (high i))
+    (c .rows-sad .ensures))
 
 fetched-sad-requires : tie.Need-fetched-sad-requires
 fetched-sad-requires c κs = search needs
 
 returns-2 : tie.Need-returns-2
-returns-2 c =
-    let e = c .before .before .before .before .before .before .before in
-    let s = e .before .before .before in
-    c .fetched-sad .ensures
-    ∙ ap (λ (v : Mv). sad16 (s .args .src .now) (copiedAt (s .args .plane .now) (s .args .s) v)) (e .stored-luma-mv .ensures)
-    ∙ cost-copied (s .args .plane .now) (s .args .s) (s .args .src .now) (s .args .mv) (s .pre .1) (λ k. omega (arith, e .before .before .shared-slice-known .given k))
+returns-2 c = copied (c .before .before .before .before .before .before .before) _ _ (c .fetched-sad .ensures)
 
 pub whole-sad-spec : {M : Type 1} → statement M
 whole-sad-spec =
