@@ -1,6 +1,7 @@
 //! Document 01's rules for the denoiser, sample by sample: no early exit, no in-bounds path, no running sums.
 
 use super::Plane;
+use super::search::{NO_CEILING, sad};
 use crate::refusals::{packed_size, planes};
 
 /// An accepted window.
@@ -42,7 +43,7 @@ pub fn build(w: &Window) -> Built {
     let matches: Vec<Vec<Match>> = if cropped {
         Vec::new()
     } else {
-        let of_frame = |&g: &usize| (0..blocks).map(|b| found(&centre[0], &w.planes(g)[0], b, columns)).collect();
+        let of_frame = |&g: &usize| (0..blocks).map(|b| found(&centre[0], &w.planes(g)[0], b)).collect();
         others.iter().map(of_frame).collect()
     };
     let mut built =
@@ -70,7 +71,8 @@ pub fn build(w: &Window) -> Built {
 }
 
 impl Window<'_> {
-    fn planes(&self, g: usize) -> [Plane<'_>; 3] {
+    /// Y, U and V of a frame.
+    pub fn planes(&self, g: usize) -> [Plane<'_>; 3] {
         planes(&self.frames[g]).map(|p| {
             let [stride, width, height] = [p.stride, p.columns, p.rows].map(|n| n as usize);
             Plane { bytes: &self.bytes[p.start as usize..], stride, width, height }
@@ -90,24 +92,57 @@ fn places(plane: &Plane) -> Vec<(i64, i64)> {
     (0..width * height).map(|i| (i % width, i / width)).collect()
 }
 
-// The block search: 33 comparisons from (0, 0), and whether its last best is accepted.
-fn found(centre: &Plane, other: &Plane, block: usize, columns: usize) -> Match {
-    let (bx, by) = ((block % columns * 16) as i64, (block / columns * 16) as i64);
-    let (bw, bh) = ((centre.width as i64 - bx).min(16), (centre.height as i64 - by).min(16));
-    let sad = |(dx, dy): (i64, i64)| -> i64 {
-        let at = |i: i64| (bx + i % bw, by + i / bw);
-        let distance = |(x, y)| i64::from(centre.sample(x, y).abs_diff(other.sample(x + dx, y + dy)));
-        (0..bw * bh).map(|i| distance(at(i))).sum()
-    };
-    let mut best = ((0, 0), sad((0, 0)));
+/// A block of a luma plane, cut at its right and its bottom edge.
+pub struct Block {
+    x: i64,
+    y: i64,
+    pub columns: usize,
+    pub rows: usize,
+}
+
+impl Block {
+    /// By its index in raster order.
+    pub fn of(plane: &Plane, index: usize) -> Block {
+        let across = plane.width.div_ceil(16);
+        let (x, y) = (index % across * 16, index / across * 16);
+        let (columns, rows) = ((plane.width - x).min(16), (plane.height - y).min(16));
+        Block { x: x as i64, y: y as i64, columns, rows }
+    }
+
+    /// The samples of a plane under it, displaced.
+    pub fn samples(&self, plane: &Plane, (dx, dy): (i64, i64)) -> Vec<u8> {
+        let columns = self.columns as i64;
+        let at = |i: i64| plane.sample(self.x + i % columns + dx, self.y + i / columns + dy);
+        (0..columns * self.rows as i64).map(at).collect()
+    }
+
+    /// Whether a SAD is below 13 times its area.
+    pub fn accepts(&self, sad: u32) -> bool {
+        (sad as usize) < 13 * self.columns * self.rows
+    }
+}
+
+/// The block search over a cost as the diamond's, of a displacement (dx, dy): 33 comparisons from (0, 0) on. The last
+/// best and its SAD.
+pub fn block_search(mut cost: impl FnMut((i64, i64), u32) -> u32) -> ((i64, i64), u32) {
+    let mut best = ((0, 0), cost((0, 0), NO_CEILING));
     for step in [8, 4, 2, 1] {
         let (cx, cy) = best.0;
         for (dy, dx) in (0..9).map(|k| (k / 3 * step - step, k % 3 * step - step)).filter(|d| *d != (0, 0)) {
-            let tried = ((cx + dx, cy + dy), sad((cx + dx, cy + dy)));
-            if tried.1 < best.1 {
-                best = tried;
+            let shift = (cx + dx, cy + dy);
+            let sad = cost(shift, best.1);
+            if sad < best.1 {
+                best = (shift, sad);
             }
         }
     }
-    Match { shift: best.0, accepted: best.1 < 13 * bw * bh }
+    best
+}
+
+// What the search finds over whole SADs.
+fn found(centre: &Plane, other: &Plane, index: usize) -> Match {
+    let block = Block::of(centre, index);
+    let source = block.samples(centre, (0, 0));
+    let (shift, last) = block_search(|shift, _| sad(&source, &block.samples(other, shift)));
+    Match { shift, accepted: block.accepts(last) }
 }

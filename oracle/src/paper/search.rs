@@ -1,7 +1,10 @@
-//! Document 01's rules for the luma searches.
+//! Document 01's rules for the luma searches, and request 4's for a SAD with a ceiling.
 
 use super::{Plane, doubled, fraction, macroblock_filtered};
 use crate::motion_vector::Mv;
+
+/// What no SAD reaches; a search measures its start up to it.
+pub const NO_CEILING: u32 = 65281;
 
 /// A vector, its SAD, the SADs computed, the first included, and the rounds made.
 #[derive(Debug, PartialEq, Eq)]
@@ -16,15 +19,29 @@ pub fn sad(a: &[u8], b: &[u8]) -> u32 {
     a.iter().zip(b).map(|(&a, &b)| u32::from(a.max(b) - a.min(b))).sum()
 }
 
-/// The SAD of a macroblock's samples against the prediction at a vector in quarter pixels.
-pub fn sad_at(plane: &Plane, (col, row): (usize, usize), source: &[u8], mv: Mv) -> u32 {
+/// A SAD up to a ceiling, over rows of so many samples. The sum is tested after each row; the row that takes it to the
+/// ceiling or past it is the last. The ceiling then, or else the whole sum, and the rows measured.
+pub fn sad_up_to(a: &[u8], b: &[u8], columns: usize, ceiling: u32) -> (u32, u32) {
+    let (mut sum, mut rows) = (0, 0);
+    for (a, b) in a.chunks(columns).zip(b.chunks(columns)) {
+        sum += sad(a, b);
+        rows += 1;
+        if sum >= ceiling {
+            return (ceiling, rows);
+        }
+    }
+    (sum, rows)
+}
+
+/// The prediction of a macroblock at a vector in quarter pixels.
+pub fn predicted(plane: &Plane, (col, row): (usize, usize), mv: Mv) -> Vec<u8> {
     let eighths = Mv { row: doubled(mv.row), col: doubled(mv.col) };
     let (mx, my) = (fraction(eighths.col) as usize, fraction(eighths.row) as usize);
     let (x, y) = (col * 16, row * 16);
     if mx == 0 && my == 0 {
-        return sad(source, &plane.macroblock(x, y, eighths));
+        return plane.macroblock(x, y, eighths);
     }
-    sad(source, &macroblock_filtered(&plane.halo(x, y, eighths), mx, my))
+    macroblock_filtered(&plane.halo(x, y, eighths), mx, my)
 }
 
 // Clamped first, then cut toward zero to a multiple of 4.
@@ -37,16 +54,17 @@ fn moved(mv: Mv, rows: i32, cols: i32) -> Mv {
     Mv { row: gridded(i32::from(mv.row) + rows), col: gridded(i32::from(mv.col) + cols) }
 }
 
-/// The small diamond over any cost.
-pub fn diamond(cost: impl Fn(Mv) -> u32, centre: Mv, limit: u32) -> Found {
+/// The small diamond over any cost. The cost is told a vector and its ceiling; what is found is the same whether it
+/// answers the whole SAD or the lesser of the two.
+pub fn diamond(mut cost: impl FnMut(Mv, u32) -> u32, centre: Mv, limit: u32) -> Found {
     let start = moved(centre, 0, 0);
-    let mut best = Found { mv: start, sad: cost(start), sads: 1, rounds: 0 };
+    let mut best = Found { mv: start, sad: cost(start, NO_CEILING), sads: 1, rounds: 0 };
     while best.rounds < u64::from(limit) {
         let before = best.mv;
         for (rows, cols) in [(-4, 0), (4, 0), (0, -4), (0, 4)] {
             let mv = moved(best.mv, rows, cols);
             if mv != best.mv {
-                let sad = cost(mv);
+                let sad = cost(mv, best.sad);
                 best.sads += 1;
                 if sad < best.sad {
                     best = Found { mv, sad, ..best };
@@ -61,17 +79,29 @@ pub fn diamond(cost: impl Fn(Mv) -> u32, centre: Mv, limit: u32) -> Found {
     best
 }
 
-/// The centre and its eight neighbours at a step, in raster order; ties keep the earlier.
-pub fn refine(cost: impl Fn(Mv) -> u32, step: i16, centre: Mv) -> (Mv, u32) {
-    let mut best = (centre, cost(centre));
-    for row in [-step, 0, step] {
-        for col in [-step, 0, step] {
-            let mv = Mv { row: centre.row + row, col: centre.col + col };
-            let sad = cost(mv);
-            if sad < best.1 {
-                best = (mv, sad);
-            }
+/// The centre, then its eight neighbours at a step in raster order, over a cost as the diamond's; ties keep the earlier.
+pub fn refine(mut cost: impl FnMut(Mv, u32) -> u32, step: i16, centre: Mv) -> (Mv, u32) {
+    let mut best = (centre, cost(centre, NO_CEILING));
+    for (row, col) in (0..9).filter(|k| *k != 4).map(|k| (k / 3 * step - step, k % 3 * step - step)) {
+        let mv = Mv { row: centre.row + row, col: centre.col + col };
+        let sad = cost(mv, best.1);
+        if sad < best.1 {
+            best = (mv, sad);
         }
     }
     best
+}
+
+#[cfg(test)]
+mod tests {
+    use super::*;
+
+    // Rows of two samples with the sums 3, 0 and 5.
+    #[test]
+    fn a_ceiling_ends_with_the_row_that_reaches_it() {
+        let measured = |ceiling| sad_up_to(&[1, 2, 7, 7, 0, 9], &[0, 4, 7, 7, 5, 9], 2, ceiling);
+        assert_eq!([0, 1, 3].map(measured), [(0, 1), (1, 1), (3, 1)]);
+        assert_eq!([4, 8].map(measured), [(4, 3), (8, 3)]);
+        assert_eq!([9, u32::MAX].map(measured), [(8, 3), (8, 3)]);
+    }
 }

@@ -21,10 +21,12 @@ mod samples;
 use crate::motion_search as original;
 use crate::motion_search::LumaRef;
 use crate::motion_vector::Mv;
-use crate::paper::{self, Plane};
+use crate::paper::Plane;
+use crate::paper::search::{Found, NO_CEILING, diamond, predicted, refine, sad, sad_up_to};
 use crate::records::{Records, packed};
 use crate::refusals::{self, Place};
 use crate::{counts, random::Random};
+use std::fmt::Debug;
 use std::path::Path;
 
 /// The calls in the order in which the replay prints them, by kind from 1 on.
@@ -49,6 +51,9 @@ struct Case {
     mv: (i16, i16),
     limit: u32,
 }
+
+/// Of a vector and a ceiling.
+type Cost<'a> = dyn Fn(Mv, u32) -> u32 + 'a;
 
 struct Writer<'a> {
     samples: &'a [u8],
@@ -94,10 +99,10 @@ impl Writer<'_> {
 
     fn block_sad(&mut self, a: usize, b: usize) {
         let (one, other) = (self.block(a), self.block(b));
-        let sad = original::block_sad_16x16(other, one);
-        assert_eq!(sad, paper::search::sad(one, other));
+        let got = original::block_sad_16x16(other, one);
+        assert_eq!(got, sad(one, other));
         let mut numbers = [0; 14];
-        (numbers[0], numbers[7], numbers[10]) = (a as u64, b as u64, sad.into());
+        (numbers[0], numbers[7], numbers[10]) = (a as u64, b as u64, got.into());
         self.records.add(1, 0, &numbers, &[]);
     }
 
@@ -127,7 +132,7 @@ impl Writer<'_> {
                 self.block(case.source),
                 case.vector(),
             );
-            assert_eq!(got, self.cost(&case)(case.vector()), "mb_luma_sad_at_whole_mv");
+            self.judged(&case, &got, |cost| cost(case.vector(), NO_CEILING));
             [got.into(), 0, 0, 0]
         });
         self.put(2, refusal, case, found);
@@ -139,7 +144,7 @@ impl Writer<'_> {
             let (col, row) = case.macroblock();
             let source = self.block(case.source);
             let got = original::mb_luma_sad_at_mv(self.reference(&case), col, row, source, case.vector());
-            assert_eq!(got, self.cost(&case)(case.vector()), "mb_luma_sad_at_mv");
+            self.judged(&case, &got, |cost| cost(case.vector(), NO_CEILING));
             [got.into(), 0, 0, 0]
         });
         self.put(3, refusal, case, found);
@@ -152,8 +157,8 @@ impl Writer<'_> {
             let source = self.block(case.source);
             let got = counts::diamond(self.reference(&case), col, row, source, case.vector(), case.limit);
             let counts::CountedDiamond { answer, sads, rounds } = got;
-            let got = paper::search::Found { mv: answer.mv, sad: answer.sad, sads, rounds };
-            assert_eq!(got, paper::search::diamond(self.cost(&case), case.vector(), case.limit));
+            let got = Found { mv: answer.mv, sad: answer.sad, sads, rounds };
+            self.judged(&case, &got, |cost| diamond(cost, case.vector(), case.limit));
             [got.sad.into(), packed(got.mv), got.sads, got.rounds]
         });
         self.put(4, refusal, case, found);
@@ -165,7 +170,7 @@ impl Writer<'_> {
             let (col, row) = case.macroblock();
             let source = self.block(case.source);
             let got = original::half_pixel_refine_luma(self.reference(&case), col, row, source, case.vector());
-            assert_eq!((got.mv, got.sad), paper::search::refine(self.cost(&case), 2, case.vector()));
+            self.judged(&case, &(got.mv, got.sad), |cost| refine(cost, 2, case.vector()));
             [got.sad.into(), packed(got.mv), 0, 0]
         });
         self.put(5, refusal, case, found);
@@ -177,17 +182,20 @@ impl Writer<'_> {
             let (col, row) = case.macroblock();
             let source = self.block(case.source);
             let got = original::quarter_pixel_refine_luma(self.reference(&case), col, row, source, case.vector());
-            assert_eq!((got.mv, got.sad), paper::search::refine(self.cost(&case), 1, case.vector()));
+            self.judged(&case, &(got.mv, got.sad), |cost| refine(cost, 1, case.vector()));
             [got.sad.into(), packed(got.mv), 0, 0]
         });
         self.put(6, refusal, case, found);
     }
 
-    // Document 01's SAD at a vector of the case.
-    fn cost(&self, case: &Case) -> impl Fn(Mv) -> u32 {
+    // What the original gives has to be what document 01's rules give, over whole SADs and over SADs up to a ceiling.
+    #[track_caller]
+    fn judged<T: Debug + PartialEq>(&self, case: &Case, got: &T, rules: impl Fn(&Cost) -> T) {
         let LumaRef { plane: bytes, stride, width, height } = self.reference(case);
-        let (mb, source) = (case.macroblock(), self.block(case.source));
-        move |mv| paper::search::sad_at(&Plane { bytes, stride, width, height }, mb, source, mv)
+        let (plane, source) = (Plane { bytes, stride, width, height }, self.block(case.source));
+        let block = |mv| predicted(&plane, case.macroblock(), mv);
+        assert_eq!(*got, rules(&|mv, _| sad(source, &block(mv))), "over whole SADs");
+        assert_eq!(*got, rules(&|mv, ceiling| sad_up_to(source, &block(mv), 16, ceiling).0), "up to a ceiling");
     }
 
     fn put(&mut self, kind: u64, refusal: u64, case: Case, found: Option<[u64; 4]>) {
