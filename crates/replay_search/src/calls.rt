@@ -5,23 +5,25 @@ use crate::header::part;
 use crate::header::vector;
 use crate::header::word;
 use motion_search::motion_search::block_sad_16x16;
+use motion_search::motion_search::block_sad_16x16_up_to;
 use motion_search::motion_search::half_pixel_refine_luma;
 use motion_search::motion_search::mb_luma_sad_at_mv;
 use motion_search::motion_search::mb_luma_sad_at_whole_mv;
 use motion_search::motion_search::quarter_pixel_refine_luma;
 use motion_search::motion_search::small_diamond_search_luma;
+use prediction::ceiling::Ceiled;
 use prediction::motion_vector::Mv;
 use search::DiamondAnswer;
 use search::SadAnswer;
 use search::SearchAnswer;
 
 // Document 01's number of a refusal, 0 where the call is accepted, and what is found; what is not is 0, and for the vector the
-// one that is stored as 0.
+// one that is stored as 0. The count is that of the SADs computed, or of the rows measured.
 struct Outcome {
     refusal: usize,
     sad: u32,
     mv: Mv,
-    sads: u32,
+    count: u32,
     rounds: u32,
 }
 
@@ -53,7 +55,7 @@ fn refused(refusal: usize) -> Outcome {
         refusal: refusal,
         sad: 0,
         mv: mv,
-        sads: 0,
+        count: 0,
         rounds: 0,
     }
 }
@@ -64,7 +66,18 @@ fn measured(sad: u32) -> Outcome {
         refusal: 0,
         sad: sad,
         mv: mv,
-        sads: 0,
+        count: 0,
+        rounds: 0,
+    }
+}
+
+fn ceiled(found: Ceiled) -> Outcome {
+    let mv = vector(0);
+    Outcome {
+        refusal: 0,
+        sad: found.sad,
+        mv: mv,
+        count: found.rows,
         rounds: 0,
     }
 }
@@ -88,7 +101,7 @@ fn of_search(answer: SearchAnswer) -> Outcome {
                 refusal: 0,
                 sad: found.sad,
                 mv: mv,
-                sads: 0,
+                count: 0,
                 rounds: 0,
             }
         }
@@ -108,7 +121,7 @@ fn of_diamond(answer: DiamondAnswer) -> Outcome {
                 refusal: 0,
                 sad: found.sad,
                 mv: mv,
-                sads: found.sads,
+                count: found.sads,
                 rounds: found.rounds,
             }
         }
@@ -157,13 +170,17 @@ fn quarter(plane: &[u8], p: Place, src: [u8; 256]) -> Outcome {
     ))
 }
 
-// The answer of a call by its kind, 1 to 6.
+// The answer of a call by its kind, 1 to 7.
 fn answered(kind: usize, samples: &[u8], record: &[u8; 128]) -> Outcome {
     let start = number(record, 2);
     let src = block(samples, number(record, 9));
     if kind == 1 {
         let pred = block(samples, start);
         return measured(block_sad_16x16(&src, &pred));
+    }
+    if kind == 7 {
+        let pred = block(samples, start);
+        return ceiled(block_sad_16x16_up_to(&src, &pred, word(number(record, 11))));
     }
     let plane = part(samples, start, number(record, 3));
     let p = place_of(record);
@@ -183,7 +200,7 @@ fn same(got: Outcome, refusal: usize, sad: usize, mv: Mv) -> bool {
 
 pub(crate) fn agrees(kind: usize, samples: &[u8], record: &[u8; 128]) -> bool {
     let got = answered(kind, samples, record);
-    let counts = got.sads as usize == number(record, 14)
+    let counts = got.count as usize == number(record, 14)
         && got.rounds as usize == number(record, 15);
     let mv = vector(number(record, 13));
     counts && same(got, number(record, 1), number(record, 12), mv)

@@ -1,12 +1,12 @@
-// Replays the stored answers of the Rust originals, and document 01's refusals, on the crate `motion_search`, and prints how many cases
-// it compared and how many differ, by call.
+// Replays the stored answers of the Rust originals, document 01's refusals, and the second implementation's SADs with a ceiling on
+// the crate `motion_search`, and prints how many cases it compared and how many differ, by call.
 // The layout of `samples` and `cases` is written in oracle/src/search/mod.rs.
 mod calls;
 mod header;
 mod tally;
 
 // Whether to go on after a record.
-fn replay_one(fd: i32, samples: &[u8], counts: &mut [u64; 16]) -> bool {
+fn replay_one(fd: i32, samples: &[u8], counts: &mut [u64; 32]) -> bool {
     let mut record = [0u8; 128];
     if io::read_full(fd, &mut record) < 128 {
         tally::print_failure(counts, b"the file ends early");
@@ -17,7 +17,7 @@ fn replay_one(fd: i32, samples: &[u8], counts: &mut [u64; 16]) -> bool {
         tally::print_all(counts, header::number(&record, 1));
         return false;
     }
-    if kind == 0 || 6 < kind {
+    if kind == 0 || 7 < kind {
         tally::print_failure(counts, b"a record of no known kind");
         return false;
     }
@@ -27,7 +27,7 @@ fn replay_one(fd: i32, samples: &[u8], counts: &mut [u64; 16]) -> bool {
 
 // A proved loop has to end, so this one counts its turns down, from more than any file has records.
 fn replay(fd: i32, samples: &[u8]) {
-    let mut counts = [0u64; 16];
+    let mut counts = [0u64; 32];
     let mut turns = u64::MAX;
     while turns > 0 && replay_one(fd, samples, &mut counts) {
         turns -= 1;

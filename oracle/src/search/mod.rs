@@ -11,10 +11,13 @@
 //!     [14] the SADs computed, [15] the rounds made
 //! kind 5, half_pixel_refine_luma: as kind 2; [12] the SAD found, [13] the vector found
 //! kind 6, quarter_pixel_refine_luma: the same
+//! kind 7, block_sad_16x16_up_to: [2] and [9] where the two macroblocks start, [11] the ceiling; [12] the value,
+//!     [14] the rows measured
 //!
 //! What a call that is refused would find is stored as 0.
 
 mod accepted;
+mod ceilings;
 mod refused;
 mod samples;
 
@@ -30,13 +33,14 @@ use std::fmt::Debug;
 use std::path::Path;
 
 /// The calls in the order in which the replay prints them, by kind from 1 on.
-const CALLS: [&str; 6] = [
+const CALLS: [&str; 7] = [
     "block_sad_16x16",
     "mb_luma_sad_at_whole_mv",
     "mb_luma_sad_at_mv",
     "small_diamond_search_luma",
     "half_pixel_refine_luma",
     "quarter_pixel_refine_luma",
+    "block_sad_16x16_up_to",
 ];
 
 /// A plane, a macroblock's place in it, the macroblock's own samples, a vector, and the diamond's limit.
@@ -67,6 +71,7 @@ pub fn write(folder: &Path) -> std::io::Result<()> {
     refused::add(&mut writer);
     accepted::add(&mut writer);
     add_block_sads(&mut writer);
+    ceilings::add(&mut writer);
     std::fs::create_dir_all(folder.join("data"))?;
     std::fs::write(folder.join("data/samples"), &samples)?;
     std::fs::write(folder.join("stdout"), printed(&writer.records))?;
@@ -75,7 +80,7 @@ pub fn write(folder: &Path) -> std::io::Result<()> {
 
 fn printed(records: &Records) -> String {
     let line = |name: &str, cases: u64| format!("{name}: {cases} compared, 0 differ\n");
-    let cases: Vec<u64> = (1..=6).map(|kind| records.of_kind(kind)).collect();
+    let cases: Vec<u64> = (1..=7).map(|kind| records.of_kind(kind)).collect();
     let calls: String = CALLS.iter().zip(&cases).map(|(name, &cases)| line(name, cases)).collect();
     calls + &line("all", cases.iter().sum())
 }
@@ -87,7 +92,7 @@ fn add_block_sads(writer: &mut Writer) {
         writer.block_sad(a, b);
     }
     for _ in 0..100 {
-        let mut any = || random.below((samples::LEN - 255) as u64) as usize;
+        let mut any = || random.below((samples::SEARCHED - 255) as u64) as usize;
         writer.block_sad(any(), any());
     }
 }

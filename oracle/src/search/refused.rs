@@ -1,6 +1,6 @@
 //! Cases at the edge of each refusal, 8 to 12, and with several at once; the empty plane first.
 
-use super::samples::{LEN, NOISE, SOURCES};
+use super::samples::{NOISE, SEARCHED, SOURCES};
 use super::{Case, Writer, needed};
 
 const HUGE: u64 = u64::MAX;
@@ -56,7 +56,7 @@ fn add_short_planes(writer: &mut Writer) {
         }
     }
     for (stride, height) in [(wraps, 16383), (wraps - 1, 16383), (1 << 60, 17)] {
-        writer.all(case(LEN, stride, (1, height), (0, 0), (0, 0)));
+        writer.all(case(SEARCHED, stride, (1, height), (0, 0), (0, 0)));
     }
 }
 

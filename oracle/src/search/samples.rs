@@ -1,5 +1,5 @@
 //! The file `samples`: pictures, then macroblocks. A plane of a case is a part of the pictures; with a stride
-//! below the width, or 0, a few bytes make a large picture.
+//! below the width, or 0, a few bytes make a large picture. Last come macroblocks that differ from another in one row.
 
 use crate::motion_comp::{SIXTAP_FILTERS, fetch_luma_mb_halo, sixtap_mb_luma, stored_luma_mv};
 use crate::motion_vector::Mv;
@@ -28,7 +28,13 @@ pub const SOURCES: usize = SMOOTH + 6400;
 pub const RAMP_SOURCES: usize = SOURCES + 10 * 256;
 /// Macroblocks predicted from `SMOOTH` at the macroblock (2, 2), every second one with noise.
 pub const MOVED_SOURCES: usize = RAMP_SOURCES + RAMPS.len() * 256;
-pub const LEN: usize = MOVED_SOURCES + MOVED.len() * 256;
+/// What the searches read, and what macroblocks drawn at random are taken from, ends here.
+pub const SEARCHED: usize = MOVED_SOURCES + MOVED.len() * 256;
+/// The first macroblock of `NOISE` with one row upside down in brightness, for each of `ROWS`.
+pub const ROW_TURNED: usize = SEARCHED;
+pub const LEN: usize = ROW_TURNED + ROWS.len() * 256;
+// What the replay has room for.
+const _: () = assert!(LEN <= 65536);
 
 /// The row and column across an axis, from the side n and a row and a column.
 type Axis = fn(usize, usize, usize) -> (usize, usize);
@@ -39,6 +45,9 @@ const AXES: [Axis; 5] = [
     |n, r, c| (n - 1 - r, c),
     |n, r, c| (n - 1 - r, n - 1 - c),
 ];
+
+/// The first row, one within, the last.
+pub const ROWS: [usize; 3] = [0, 7, 15];
 
 /// Columns a sample, rows a sample, and the place of the macroblock's first sample in RISE.
 pub const RAMPS: [(usize, usize, usize); 12] = [
@@ -112,8 +121,13 @@ pub fn all() -> Vec<u8> {
         let mut shaken = |b: u8| if i % 2 == 1 { b.saturating_add((random.below(9)) as u8) } else { b };
         bytes.extend(block.map(&mut shaken));
     }
+    bytes.extend(ROWS.map(|row| turned(&bytes[NOISE..], row)).concat());
     assert_eq!(bytes.len(), LEN);
     bytes
+}
+
+fn turned(noise: &[u8], row: usize) -> [u8; 256] {
+    std::array::from_fn(|i| if i / 16 == row { 255 - noise[i] } else { noise[i] })
 }
 
 // Each sample and the one across the axis are the same.
