@@ -32,6 +32,14 @@ pub struct Sad {
 
 #[repr(C)]
 #[derive(Debug, Clone, Copy, PartialEq, Eq)]
+pub struct Ceiled {
+    pub refusal: u32,
+    pub sad: u32,
+    pub rows: u32,
+}
+
+#[repr(C)]
+#[derive(Debug, Clone, Copy, PartialEq, Eq)]
 pub struct Search {
     pub refusal: u32,
     pub row: i16,
@@ -106,6 +114,8 @@ unsafe extern "C" {
     ) -> Status;
     #[link_name = "vp8model_block_sad_16x16"]
     pub safe fn block_sad_16x16(src: &[u8; 256], pred: &[u8; 256]) -> u32;
+    #[link_name = "vp8model_block_sad_16x16_up_to"]
+    pub safe fn block_sad_16x16_up_to(src: &[u8; 256], pred: &[u8; 256], ceiling: u32) -> Ceiled;
     fn vp8model_mb_luma_sad_at_whole_mv(
         plane: *const u8, len: usize, stride: usize, width: usize, height: usize, mb_col: usize, mb_row: usize,
         src_y: &[u8; 256], mv_row: i16, mv_col: i16,

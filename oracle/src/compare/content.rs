@@ -6,15 +6,19 @@ use crate::random::Random;
 use std::sync::OnceLock;
 
 /// The kinds of `bytes` and of `macroblock`.
-pub const KINDS: u64 = 8;
+pub const KINDS: u64 = 10;
 pub const SOURCES: u64 = 5;
 pub const CUT: u64 = 3;
 pub const TEXTURE: u64 = 4;
+pub const STEEP: u64 = 8;
+pub const TILES: u64 = 9;
 
 const SIDE: usize = 256;
 
 /// So many bytes, read as rows of `pitch`: flat, a gradient, checkers, levels about the denoiser's cut-off in
-/// chunks of a row each, a smooth texture, the same with noise, noise of few levels, noise.
+/// chunks of a row each, a smooth texture, the same with noise, noise of few levels, noise. Then for the searches a steep
+/// slope up and down by rows or by columns, in which a candidate is lost after a few rows, and a small tile of noise again
+/// and again, in which places a period apart tie.
 pub fn bytes(kind: u64, seed: u64, len: usize, pitch: usize) -> Vec<u8> {
     let pitch = pitch.clamp(1, len.max(1));
     let mut random = Random::new(seed);
@@ -37,7 +41,17 @@ pub fn bytes(kind: u64, seed: u64, len: usize, pitch: usize) -> Vec<u8> {
             (0..len).map(|i| shaken(texture(at(i), seed))).collect()
         }
         6 => (0..len).map(|_| 90 + random.below(30) as u8).collect(),
-        _ => random.bytes(len),
+        7 => random.bytes(len),
+        STEEP => {
+            let (step, down) = (16 + random.below(64) as usize, random.percent(50));
+            let height = |(row, col): (usize, usize)| step * (if down { row } else { col }) % 510;
+            (0..len).map(|i| height(at(i)).min(510 - height(at(i))) as u8).collect()
+        }
+        _ => {
+            let [rows, cols] = [0; 2].map(|_| random.pick(&[1, 2, 3, 4, 8]));
+            let tile = random.bytes(rows * cols);
+            (0..len).map(|i| tile[at(i).0 % rows * cols + at(i).1 % cols]).collect()
+        }
     }
 }
 

@@ -5,6 +5,7 @@
 
 mod answer;
 mod builds;
+mod ceilings;
 pub mod content;
 mod guarded;
 mod input;
@@ -25,9 +26,23 @@ struct Run {
     inputs: u64,
     seed: u64,
     index: Option<u64>,
-    plant: bool,
+    plant: Option<&'static Plant>,
     trace: bool,
 }
+
+/// A wrong expectation, so that the report of a difference can be tried: what a call is expected to say at a place is one
+/// less where a number of its input is above 20.
+struct Plant {
+    word: &'static str,
+    call: &'static str,
+    number: &'static str,
+    place: usize,
+}
+
+static PLANTS: [Plant; 2] = [
+    Plant { word: "--plant", call: "small_diamond_search_luma", number: "width", place: 2 },
+    Plant { word: "--plant-rows", call: "block_sad_16x16_up_to", number: "ceiling", place: 1 },
+];
 
 /// Runs the comparison; whether every answer was the same. None where the words are not understood.
 pub fn run(words: &[&str]) -> Option<bool> {
@@ -56,17 +71,16 @@ pub fn run(words: &[&str]) -> Option<bool> {
 }
 
 fn parsed(words: &[&str]) -> Option<Run> {
-    let mut run = Run { inputs: 200_000, seed: 6386, index: None, plant: false, trace: false };
+    let mut run = Run { inputs: 200_000, seed: 6386, index: None, plant: None, trace: false };
     let mut words = words.iter();
     while let Some(&word) = words.next() {
         match word {
             "--quick" => run.inputs = 5_000,
-            "--plant" => run.plant = true,
             "--trace" => run.trace = true,
             "--inputs" => run.inputs = words.next()?.parse().ok()?,
             "--seed" => run.seed = words.next()?.parse().ok()?,
             "--index" => run.index = Some(words.next()?.parse().ok()?),
-            _ => return None,
+            _ => run.plant = Some(PLANTS.iter().find(|plant| plant.word == word)?),
         }
     }
     Some(run)
@@ -75,22 +89,21 @@ fn parsed(words: &[&str]) -> Option<Run> {
 fn kinds() -> Vec<&'static Kind> {
     static DEFAULT: Kind = numbers::DEFAULT;
     static NUMBERS: [Kind; 14] = numbers::KINDS;
-    static PLANES: [Kind; 10] = planes::KINDS;
+    static PLANES: [Kind; 11] = planes::KINDS;
     static BUILDS: [Kind; 5] = builds::KINDS;
     std::iter::once(&DEFAULT).chain(&NUMBERS).chain(&PLANES).chain(&BUILDS).collect()
 }
 
-// Both answers. A panic of the original is a fault. With `plant` one expected value is wrong, so that the
-// report of a difference can be tried.
-fn answers(input: &Input, plant: bool) -> Pair {
+// Both answers. A panic of the original is a fault.
+fn answers(input: &Input, plant: Option<&Plant>) -> Pair {
     let mut pair = catch_unwind(|| (input.kind.answers)(input)).unwrap_or_else(|cause| {
         let cause = cause.downcast_ref::<String>().cloned().unwrap_or_default();
         let faults = vec![format!("the original panicked: {cause}")];
         Pair { model: Answer::default(), expected: Answer { faults, ..Answer::default() } }
     });
-    let planted = |input: &Input| input.kind.name == "small_diamond_search_luma" && input.get("width") > 20;
-    if plant && pair.expected.refusal == 0 && planted(input) {
-        pair.expected.said[2] ^= 1;
+    let planted = plant.filter(|p| p.call == input.kind.name && pair.expected.refusal == 0 && input.get(p.number) > 20);
+    if let Some(plant) = planted {
+        pair.expected.said[plant.place] -= 1;
     }
     pair
 }

@@ -1,10 +1,10 @@
 //! The filters, the fetches, the SADs and the searches.
 
 use super::answer::{Answer, Pair};
-use super::content;
 use super::guarded::Guarded;
 use super::input::{Drawn, Input, Kind};
 use super::numbers::{component, side};
+use super::{ceilings, content};
 use crate::motion_comp::{self, SIXTAP_FILTERS};
 use crate::motion_search::{self as original, LumaRef};
 use crate::motion_vector::Mv;
@@ -26,7 +26,7 @@ const DIAMOND: &[&str] = &[
 ];
 
 #[rustfmt::skip]
-pub const KINDS: [Kind; 10] = [
+pub const KINDS: [Kind; 11] = [
     Kind { name: "interp", weight: 40, fields: &["selector", "support_seed", "levels"], draw: draw_interp,
            answers: answer_interp },
     Kind { name: "sixtap_mb_luma", weight: 70, fields: &["mx", "my", "content", "content_seed"], draw: draw_sixtap,
@@ -35,6 +35,8 @@ pub const KINDS: [Kind; 10] = [
     Kind { name: "fetch_luma_mb_halo", weight: 75, fields: FETCH, draw: draw_fetch, answers: answer_halo },
     Kind { name: "block_sad_16x16", weight: 50, fields: &["src", "src_seed", "pred", "pred_seed"], draw: draw_pair,
            answers: answer_block_sad },
+    Kind { name: "block_sad_16x16_up_to", weight: 60, fields: ceilings::FIELDS, draw: ceilings::draw,
+           answers: ceilings::answer },
     Kind { name: "mb_luma_sad_at_whole_mv", weight: 90, fields: SEARCH, draw: |r| draw_search(r, 4),
            answers: answer_whole_sad },
     Kind { name: "mb_luma_sad_at_mv", weight: 90, fields: SEARCH, draw: |r| draw_search(r, 1), answers: answer_sad },
@@ -68,8 +70,13 @@ fn draw_sixtap(random: &mut Random) -> Drawn {
     (vec![selector(random), selector(random), content, seed], vec![])
 }
 
-fn draw_pair(random: &mut Random) -> Drawn {
+pub fn draw_pair(random: &mut Random) -> Drawn {
     ([draw_content(random), draw_content(random)].concat(), vec![])
+}
+
+/// The two blocks of such a pair.
+pub fn pair(numbers: &[i128]) -> [Vec<u8>; 2] {
+    [0, 2].map(|k| content::bytes(numbers[k] as u64, numbers[k + 1] as u64, 256, 16))
 }
 
 // A plane's content, length, stride, width and height; huge strides and lengths that are short are few.
@@ -176,9 +183,8 @@ fn answer_sixtap(input: &Input) -> Pair {
 }
 
 fn answer_block_sad(input: &Input) -> Pair {
-    let samples = |kind, seed| content::bytes(input.get(kind) as u64, input.get(seed) as u64, 256, 16);
-    let src = Guarded::holding(&samples("src", "src_seed"), input.salt);
-    let pred = Guarded::holding(&samples("pred", "pred_seed"), input.salt ^ 1);
+    let [src, pred] = pair(&input.numbers);
+    let (src, pred) = (Guarded::holding(&src, input.salt), Guarded::holding(&pred, input.salt ^ 1));
     let sad = model::block_sad_16x16(src.array(), pred.array());
     let model = Answer::new(0, &[sad.into()]).constant("src", &src).constant("pred", &pred);
     Pair { model, expected: Answer::new(0, &[original::block_sad_16x16(src.array(), pred.array()).into()]) }
@@ -212,6 +218,20 @@ impl Case {
     fn reference(&self) -> LumaRef<'_> {
         let Case { stride, width, height, .. } = *self;
         LumaRef { plane: self.plane.slice(), stride, width, height }
+    }
+
+    fn paper(&self) -> Plane<'_> {
+        let Case { stride, width, height, .. } = *self;
+        Plane { bytes: self.plane.slice(), stride, width, height }
+    }
+
+    // The source macroblock of a search.
+    fn source(&self, input: &Input) -> [u8; 256] {
+        let plane = self.paper();
+        let whole = refusals::of_diamond(self.place()) == 0;
+        let (kind, seed) = (input.get("source") as u64, input.get("source_seed") as u64);
+        let at = (self.at.0.wrapping_mul(16), self.at.1.wrapping_mul(16));
+        content::macroblock(kind, seed, whole.then_some(&plane), at, self.mv)
     }
 
     fn place(&self) -> Place {
@@ -258,15 +278,10 @@ fn searched(
     original: impl Fn(&Case, &[u8; 256]) -> Vec<i64>,
 ) -> Pair {
     let case = Case::of(input, ["mb_col", "mb_row"]);
-    let Case { stride, width, height, at: (col, row), mv, .. } = case;
-    let whole = refusals::of_diamond(case.place()) == 0;
-    let plane = Plane { bytes: case.plane.slice(), stride, width, height };
-    let (kind, seed) = (input.get("source") as u64, input.get("source_seed") as u64);
-    let place = (col.wrapping_mul(16), row.wrapping_mul(16));
-    let samples = content::macroblock(kind, seed, whole.then_some(&plane), place, mv);
+    let samples = case.source(input);
     let src = Guarded::holding(&samples, input.salt ^ 1);
     let (number, said) = model(&case, src.array());
-    let refusal = refused(case.place(), mv);
+    let refusal = refused(case.place(), case.mv);
     let wanted = if refusal == 0 { original(&case, &samples) } else { vec![0; said.len()] };
     let model = Answer::new(number.into(), &said).constant("plane", &case.plane).constant("src_y", &src);
     Pair { model, expected: Answer::new(refusal, &wanted) }
@@ -336,4 +351,35 @@ fn answer_quarter(input: &Input) -> Pair {
         vec![got.mv.row.into(), got.mv.col.into(), got.sad.into()]
     };
     searched(input, |place, mv| refusals::of_vector_on_grid(place, mv, 2), model, original)
+}
+
+#[cfg(test)]
+mod tests {
+    use super::*;
+    use crate::paper::search::{NO_CEILING, diamond, predicted, sad, sad_up_to};
+
+    // Of the neighbours that drawn diamonds measure, many tie with the best and many are lost before their last row.
+    #[test]
+    fn drawn_diamonds_tie_and_lose() {
+        static ALL: [Kind; 11] = KINDS;
+        let kind = ALL.iter().find(|kind| kind.name == "small_diamond_search_luma").expect("a kind of the list");
+        let (mut tried, mut tied, mut lost) = (0, 0, 0);
+        for input in (0..500).map(|index| Input::draw(&[kind], 6386, index)) {
+            let case = Case::of(&input, ["mb_col", "mb_row"]);
+            if refusals::of_diamond(case.place()) > 0 {
+                continue;
+            }
+            let source = case.source(&input);
+            let cost = |mv, ceiling| {
+                let block = predicted(&case.paper(), case.at, mv);
+                let (value, rows) = sad_up_to(&source, &block, 16, ceiling);
+                tried += u32::from(ceiling < NO_CEILING);
+                tied += u32::from(sad(&source, &block) == ceiling);
+                lost += u32::from(rows < 16);
+                value
+            };
+            diamond(cost, case.mv, 40);
+        }
+        assert!(tried > 2000 && tied * 5 > tried && lost * 10 > tried, "{tried} tried, {tied} tied, {lost} lost");
+    }
 }

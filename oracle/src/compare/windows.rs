@@ -81,7 +81,7 @@ fn draw_len(random: &mut Random, samples: u64) -> i128 {
     }
 }
 
-// The content of the picture bytes, their pitch and the frames: parts of one texture, packed, or anywhere.
+// The content of the picture bytes, their pitch and the frames: parts of one picture, packed, or anywhere.
 fn draw_frames(random: &mut Random, (width, height): (u32, u32), count: u64) -> (u64, u32, Vec<Frame>) {
     let any = random.below(content::KINDS);
     if width > 200 || height > 200 || width == 0 || height == 0 {
@@ -95,7 +95,8 @@ fn draw_frames(random: &mut Random, (width, height): (u32, u32), count: u64) -> 
             let pitch = width + 64;
             let reach = random.pick(&[1, 3, 9, 17]);
             let frames = (0..count).map(|_| moved(random, (width, height), pitch, reach)).collect();
-            (content::TEXTURE + random.below(2), pitch, frames)
+            let textured = content::TEXTURE + random.below(2);
+            (random.pick(&[textured, textured, textured, content::STEEP, content::TILES]), pitch, frames)
         }
         45..80 => {
             let samples = packed_size(width.into(), height.into()) as u32;
@@ -119,7 +120,7 @@ fn draw_frames(random: &mut Random, (width, height): (u32, u32), count: u64) -> 
     }
 }
 
-// A part of the texture, moved by less than `reach` both ways; chroma lies below and moves by half.
+// A part of the picture, moved by less than `reach` both ways; chroma lies below and moves by half.
 fn moved(random: &mut Random, (width, height): (u32, u32), pitch: u32, reach: u64) -> Frame {
     let mut by = || 20 + random.below(2 * reach - 1) as u32 - (reach as u32 - 1);
     let (x, y) = (by(), by());
