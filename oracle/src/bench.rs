@@ -9,7 +9,10 @@ use crate::model::{self, Luma};
 use crate::motion_comp::{SIXTAP_FILTERS, fetch_luma_mb_halo, sixtap_mb_luma};
 use crate::motion_search::{self as original, LumaRef};
 use crate::motion_vector::Mv;
+use crate::paper::denoiser::Window;
+use crate::paper::search::{NO_CEILING, sad};
 use crate::refusals::packed_size;
+use crate::rows::{self, Rows, Source};
 use std::hint::black_box;
 use std::time::{Duration, Instant};
 
@@ -18,12 +21,16 @@ const ROUNDS: usize = 41;
 const ROUND: Duration = Duration::from_millis(3);
 const WIDTH: usize = 352;
 const HEIGHT: usize = 288;
+/// Of the sample clip.
+const CLIP: (usize, usize) = (64, 48);
 
-pub fn run() {
+/// The clip is the host's sample.
+pub fn run(clip: &[u8]) {
     let build = if cfg!(feature = "simd") { "simd" } else { "plain" };
     println!("bench: Rust {build}, release, opt-level 3; both sides for baseline x86-64");
     println!("{ROUNDS} rounds, the sides alternated, warm buffers; time of a call, least and median of the rounds");
     println!("ratio = Rust's time / the model's; the Rust builder allocates its output, the model's is lent it;");
+    println!("beside a SAD up to a ceiling stands the Rust's whole SAD;");
     println!("a percentage is the share of accepted blocks: the last builder's window is a still picture with noise");
     println!("{:<40} {:>21} {:>21} {:>13}", "", "model", "Rust", "ratio");
     println!(
@@ -32,7 +39,9 @@ pub fn run() {
     );
     filters();
     sads();
-    searches();
+    searches(&moving());
+    diamonds("diamond, moving texture", &moving());
+    diamonds("diamond, noise", &noise());
     let frames = [2, 3, 5, 7, 9, 15].map(|count| ((WIDTH, HEIGHT), count));
     let sizes = [(176, 144), (704, 576)].map(|size| (size, 7));
     let windows = [&frames[..], &sizes].concat();
@@ -44,6 +53,7 @@ pub fn run() {
         let [ours, rust] = least.map(|ns| ns / shares);
         println!("  {width}x{height}, {count:>2} frames: model {ours:.2} ns, Rust {rust:.2} ns");
     }
+    count_rows(clip);
 }
 
 // Measures both sides, prints a line, and answers the least time of each.
@@ -129,6 +139,13 @@ fn sads() {
     let rust = || black_box(original::block_sad_16x16(black_box(&one), black_box(&two)));
     assert_eq!(ours(), rust());
     measure("block_sad_16x16", || _ = ours(), || _ = rust());
+    for rows in [16, 5, 1] {
+        let first = 16 * rows as usize;
+        let ceiling = if rows < 16 { sad(&one[..first], &two[..first]) } else { NO_CEILING };
+        let ours = || black_box(model::block_sad_16x16_up_to(black_box(&one), black_box(&two), black_box(ceiling)));
+        assert_eq!((ours().sad, ours().rows), (rust().min(ceiling), rows));
+        measure(&format!("block_sad_16x16_up_to, rows measured {rows:>2}"), || _ = ours(), || _ = rust());
+    }
     for (name, row, col) in [("inside", 12, -8), ("across the edge", -520, 12)] {
         let mv = Mv { row, col };
         // nothing of the call may be a constant on either side
@@ -157,20 +174,37 @@ fn halos(plane: &[u8], name: &str, mv: Mv) {
     measure(&format!("halo fetch, {name}"), || _ = ours(), || _ = rust());
 }
 
-type Source = ((usize, usize), [u8; 256]);
+/// A reference and the macroblocks that are searched in it.
+type Scene = (Vec<u8>, Vec<Source>);
 
-// The diamond and both refinements for each of the 396 macroblocks of a texture with noise, which shows what lies 5 rows
-// lower and 3 columns further left in the reference.
-fn searches() {
-    let plane = content::bytes(4, 20 + 256 * 20, WIDTH * HEIGHT, WIDTH);
-    let moved = content::bytes(5, 25 + 256 * 17, WIDTH * HEIGHT, WIDTH);
-    let (luma, same) = reference(&plane);
-    let source = |i: usize| {
-        let (col, row) = (i % 22, i / 22);
-        let at = |k: usize| moved[(row * 16 + k / 16) * WIDTH + col * 16 + k % 16];
-        ((col, row), std::array::from_fn(at))
+// A texture with noise, which shows what lies 5 rows lower and 3 columns further left in the reference.
+fn moving() -> Scene {
+    let [plane, moved] = [(4, 20 + 256 * 20), (5, 25 + 256 * 17)].map(plane_of);
+    (plane, macroblocks(&moved, (WIDTH, HEIGHT)))
+}
+
+// Noise in other noise: no candidate is far behind the best.
+fn noise() -> Scene {
+    let [plane, other] = [(7, 1), (7, 2)].map(plane_of);
+    (plane, macroblocks(&other, (WIDTH, HEIGHT)))
+}
+
+fn plane_of((kind, seed): (u64, u64)) -> Vec<u8> {
+    content::bytes(kind, seed, WIDTH * HEIGHT, WIDTH)
+}
+
+// Those of a luma plane with sides that are multiples of 16.
+fn macroblocks(plane: &[u8], (width, height): (usize, usize)) -> Vec<Source> {
+    let of = |i: usize| {
+        let (col, row) = (i % (width / 16), i / (width / 16));
+        ((col, row), std::array::from_fn(|k| plane[(row * 16 + k / 16) * width + col * 16 + k % 16]))
     };
-    let sources: Vec<Source> = (0..396).map(source).collect();
+    (0..width / 16 * (height / 16)).map(of).collect()
+}
+
+// The diamond and both refinements for each of the 396 macroblocks.
+fn searches((plane, sources): &Scene) {
+    let (luma, same) = reference(plane);
     let ours = |(mb, src): &Source| {
         let d = model::small_diamond_search_luma(luma, *mb, src, Mv::default(), 64);
         let h = model::half_pixel_refine_luma(luma, *mb, src, Mv { row: d.row, col: d.col });
@@ -183,12 +217,38 @@ fn searches() {
         let q = original::quarter_pixel_refine_luma(same, mb.0, mb.1, src, h.mv);
         black_box((q.mv.row, q.mv.col, q.sad))
     };
-    assert!(sources.iter().all(|source| ours(source) == rust(source)));
-    let ours = || black_box(&sources).iter().for_each(|source| _ = ours(source));
-    let rust = || black_box(&sources).iter().for_each(|source| _ = rust(source));
-    let least = measure("diamond, half, quarter, 396 macroblocks", ours, rust);
+    let least = measure_all("diamond, half, quarter, 396 macroblocks", sources, ours, rust);
     let [ours, rust] = least.map(|ns| shown(ns / 396.0));
     println!("  of that a macroblock, least: model {ours}, Rust {rust}");
+}
+
+// The diamond alone.
+fn diamonds(name: &str, (plane, sources): &Scene) {
+    let (luma, same) = reference(plane);
+    let ours = |(mb, src): &Source| {
+        let d = model::small_diamond_search_luma(luma, *mb, src, Mv::default(), 64);
+        black_box((d.row, d.col, d.sad))
+    };
+    let rust = |(mb, src): &Source| {
+        let d = original::small_diamond_search_luma(same, mb.0, mb.1, src, Mv::default(), 64);
+        black_box((d.mv.row, d.mv.col, d.sad))
+    };
+    measure_all(name, sources, ours, rust);
+}
+
+type Found = (i16, i16, u32);
+
+// Both sides over all macroblocks.
+fn measure_all(
+    name: &str,
+    sources: &[Source],
+    ours: impl Fn(&Source) -> Found,
+    rust: impl Fn(&Source) -> Found,
+) -> [f64; 2] {
+    assert!(sources.iter().all(|source| ours(source) == rust(source)), "{name}");
+    let ours = || black_box(sources).iter().for_each(|source| _ = ours(source));
+    let rust = || black_box(sources).iter().for_each(|source| _ = rust(source));
+    measure(name, ours, rust)
 }
 
 // The pictures of a texture with noise, packed: each shows what lies 2 rows lower and 3 columns further right in the one
@@ -203,14 +263,21 @@ fn pictures((width, height): (usize, usize), count: usize, step: usize) -> Vec<u
     (0..count).flat_map(picture).collect()
 }
 
+// The numbers of pictures packed one after the other.
+fn packed_frames((width, height): (usize, usize), count: usize) -> Vec<[u32; 7]> {
+    let samples = packed_size(width as u64, height as u64) as usize;
+    let (y, columns) = (width * height, width.div_ceil(2));
+    let u = y + columns * height.div_ceil(2);
+    let numbers = |g: usize| [width, height, g * samples, g * samples + y, g * samples + u, width, columns];
+    (0..count).map(|g| numbers(g).map(|n| n as u32)).collect()
+}
+
 // The builder at strength 3, the centre in the middle; the share of accepted blocks stands in the name.
 fn builder((width, height): (usize, usize), count: usize, step: usize) -> [f64; 2] {
     let samples = packed_size(width as u64, height as u64) as usize;
     let bytes = pictures((width, height), count, step);
-    let (y, columns) = (width * height, width.div_ceil(2));
-    let u = y + columns * height.div_ceil(2);
-    let number = |g: usize| [width, height, g * samples, g * samples + y, g * samples + u, width, columns];
-    let numbers: Vec<u32> = (0..count).flat_map(number).map(|n| n as u32).collect();
+    let numbers = packed_frames((width, height), count).concat();
+    let [y, u] = [3, 4].map(|k| numbers[k] as usize);
     let packed = |y, u, v| I420Frame::packed(width as u32, height as u32, y, u, v);
     let frames: Vec<I420Frame> = bytes.chunks(samples).map(|p| packed(&p[..y], &p[y..u], &p[u..])).collect();
     let (mut output, mut sums, mut weights) = (vec![0; samples], vec![0; samples], vec![0; samples]);
@@ -227,4 +294,39 @@ fn builder((width, height): (usize, usize), count: usize, step: usize) -> [f64; 
     let accepted = built.accepted as usize * 100 / blocks;
     let name = format!("builder {width}x{height}, {count} frames, {accepted}%");
     measure(&name, || _ = ours(), || _ = black_box(rust()))
+}
+
+// The same searches and windows, and those of the sample clip.
+fn count_rows(clip: &[u8]) {
+    println!("rows measured, each candidate up to the best so far, of those of whole SADs; what is found is the same:");
+    for (name, (plane, sources)) in [("moving texture", moving()), ("noise", noise())] {
+        let mut rows = [Rows::default(); 3];
+        sources.iter().for_each(|source| rows::add_searches(&mut rows, reference(&plane).0, source, 64));
+        print_rows(name, rows);
+    }
+    for (name, step) in [("moving", 1), ("still", 0)] {
+        let rows = window_rows(&pictures((WIDTH, HEIGHT), 7, step), (WIDTH, HEIGHT), 7);
+        println!("  builder {WIDTH}x{HEIGHT}, 7 frames, {name}: {rows}");
+    }
+    let (width, height) = CLIP;
+    let luma: Vec<&[u8]> = clip.chunks(width * height * 3 / 2).map(|frame| &frame[..width * height]).collect();
+    let mut rows = [Rows::default(); 3];
+    for (g, pair) in luma.windows(2).enumerate() {
+        let reference = Luma { plane: pair[0], stride: width, width, height };
+        macroblocks(pair[1], CLIP).iter().for_each(|source| rows::add_searches(&mut rows, reference, source, u32::MAX));
+        if g == 0 {
+            print_rows("sample clip, frame 1 in frame 0", rows);
+        }
+    }
+    print_rows("sample clip, each frame in the one before", rows);
+    println!("  sample clip, builder: {}", window_rows(clip, CLIP, luma.len()));
+}
+
+fn print_rows(name: &str, [diamond, half, quarter]: [Rows; 3]) {
+    println!("  {name}: diamond {diamond}, half {half}, quarter {quarter}");
+}
+
+// Of the block search at strength 3, the centre in the middle.
+fn window_rows(bytes: &[u8], size: (usize, usize), count: usize) -> Rows {
+    rows::of_window(&Window { bytes, frames: &packed_frames(size, count), centre: count / 2, strength: 3 })
 }

@@ -3,9 +3,10 @@
 //!     oracle answers NAME OUTDIR
 //!     oracle compare [--inputs N] [--seed S] [--index I] [--quick]
 //!     oracle cells [--quick]
-//!     oracle bench
+//!     oracle bench CLIP
 //!
 //! NAME is prediction, search or arnr; OUTDIR gets the folder data/ and the file stdout of the crate replay_NAME.
+//! CLIP is the host's sample clip.
 //! Exit status: 0 done; 1 the comparison found a difference; 2 bad usage; 3 the originals, or for the last three the
 //! model's library, are not there and nothing was done; 101 an answer of the originals is not document 01's, or they
 //! panicked.
@@ -36,6 +37,8 @@ mod random;
 mod records;
 #[cfg(not(sources_absent))]
 mod refusals;
+#[cfg(all(model, not(sources_absent)))]
+mod rows;
 #[cfg(not(sources_absent))]
 mod search;
 
@@ -72,8 +75,8 @@ fn main() {
             Some(same) => exit(if same { 0 } else { 1 }),
             None => usage("usage: oracle cells [--quick]"),
         },
-        ["bench"] => bench(),
-        _ => usage("usage: oracle answers NAME OUTDIR, or oracle compare, oracle cells or oracle bench"),
+        ["bench", clip] => bench(Path::new(clip)),
+        _ => usage("usage: oracle answers NAME OUTDIR, or oracle compare, oracle cells or oracle bench CLIP"),
     }
 }
 
@@ -110,12 +113,15 @@ fn cells(words: &[&str]) -> Option<bool> {
 }
 
 #[cfg(all(model, not(sources_absent)))]
-fn bench() {
-    bench::run()
+fn bench(clip: &Path) {
+    match std::fs::read(clip) {
+        Ok(bytes) => bench::run(&bytes),
+        Err(e) => usage(&format!("{}: {e}", clip.display())),
+    }
 }
 
 #[cfg(not(all(model, not(sources_absent))))]
-fn bench() {
+fn bench(_clip: &Path) {
     without_model()
 }
 

@@ -16,7 +16,7 @@ pub const FIELDS: &[&str] = &["src", "src_seed", "pred", "pred_seed", "alike", "
 /// first rows sum up to, or a neighbour of it.
 pub fn draw(random: &mut Random) -> Drawn {
     let (mut all, list) = draw_pair(random);
-    if random.percent(2) {
+    if random.percent(5) {
         all.copy_from_slice(&[0, 0, 0, 255]);
     }
     let one = 1 << random.below(16);

@@ -1,4 +1,4 @@
-//! Picture bytes by a kind and a seed, the plainest kind first, so that a smaller number is a plainer picture.
+//! Picture bytes by a kind and a seed, the plainest kinds first, so that a small number is a plain picture.
 
 use crate::motion_vector::Mv;
 use crate::paper::Plane;
@@ -16,9 +16,9 @@ pub const TILES: u64 = 9;
 const SIDE: usize = 256;
 
 /// So many bytes, read as rows of `pitch`: flat, a gradient, checkers, levels about the denoiser's cut-off in
-/// chunks of a row each, a smooth texture, the same with noise, noise of few levels, noise. Then for the searches a steep
-/// slope up and down by rows or by columns, in which a candidate is lost after a few rows, and a small tile of noise again
-/// and again, in which places a period apart tie.
+/// chunks of a row each, a smooth texture, the same with noise, noise of few levels, noise. For the searches also a
+/// slope, steep up and down, by rows or by columns, where a candidate is lost after a few rows; and a small tile of
+/// noise again and again, where places a period apart tie.
 pub fn bytes(kind: u64, seed: u64, len: usize, pitch: usize) -> Vec<u8> {
     let pitch = pitch.clamp(1, len.max(1));
     let mut random = Random::new(seed);

@@ -30,8 +30,8 @@ struct Run {
     trace: bool,
 }
 
-/// A wrong expectation, so that the report of a difference can be tried: what a call is expected to say at a place is one
-/// less where a number of its input is above 20.
+/// A wrong expectation, so that the report of a difference can be tried: of what a call says, the number at a place is
+/// expected one less where a number of the input is above 20.
 struct Plant {
     word: &'static str,
     call: &'static str,

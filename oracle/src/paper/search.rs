@@ -79,7 +79,7 @@ pub fn diamond(mut cost: impl FnMut(Mv, u32) -> u32, centre: Mv, limit: u32) -> 
     best
 }
 
-/// The centre, then its eight neighbours at a step in raster order, over a cost as the diamond's; ties keep the earlier.
+/// The centre, then its eight neighbours at a step in raster order; ties keep the earlier. The cost as for the diamond.
 pub fn refine(mut cost: impl FnMut(Mv, u32) -> u32, step: i16, centre: Mv) -> (Mv, u32) {
     let mut best = (centre, cost(centre, NO_CEILING));
     for (row, col) in (0..9).filter(|k| *k != 4).map(|k| (k / 3 * step - step, k % 3 * step - step)) {
