@@ -291,8 +291,7 @@ fn placed_sad(
     ceiling: u32,
 ) -> Ceiled
     requires { ⌜ (start + (top + 15) * stride + left + 15 < length (now bytes)) × ((y + 15) * columns + x + 15 < length (now centre)) ⌝ }
-    ensures { λ r. ⌜ CeiledIs (λ j. sumBelow (λ k. distance (getD (now (centre .entry)) ((y + j) * columns + (x + k)) 0)
-        (getD (now (bytes .entry)) (start + (top + j) * stride + (left + k)) 0)) 16) 16 ceiling r ⌝ }
+    ensures { λ r. ⌜ CeiledIs (rowApart (now (centre .entry)) (y * columns + x) columns (now (bytes .entry)) (start + top * stride + left) stride) 16 ceiling r ⌝ }
 {
     inner_sad(
         centre,
@@ -320,12 +319,10 @@ fn square_sad(
     requires { ⌜ p .columns * p .rows ≤ length (now centre) ⌝ }
     ensures { λ r. ⌜ CeiledIs (lumaRow (now (centre .entry)) (now (bytes .entry)) p b d) (b .rows) ceiling r ⌝ }
 {
-    let left = edge(b.x, d.dx, p.columns);
-    let right = edge(b.x + 15, d.dx, p.columns);
-    let top = edge(b.y, d.dy, p.rows);
-    let bottom = edge(b.y + 15, d.dy, p.rows);
-    if left + 15 == right {
-        if top + 15 == bottom {
+    if runs_inside(b.x, 16, d.dx, p.columns) {
+        if runs_inside(b.y, 16, d.dy, p.rows) {
+            let left = edge(b.x, d.dx, p.columns);
+            let top = edge(b.y, d.dy, p.rows);
             return placed_sad(
                 bytes,
                 p.start,

@@ -2,28 +2,31 @@
 use mathlib.Core.Path.{_≡_, refl, sym, ap, _∙_}
 use mathlib.Core.List.{List}
 use Prim.Native.Nat.{ℕ, _+_, _*_, _≤_, _<_, min}
+use native.Mathlib.Nat.{add-mul}
 use native.Mathlib.Omega.{arith}
-use lib.IntN.{pos, _+ℤ_}
+use lib.IntN.{ℤ, pos, _+ℤ_}
 use lib.ListN.{getD}
 use Rattle.laws.specs.Sums.{sumBelow}
-use Rattle.laws.proofs.Sums.{sum-most}
+use Rattle.laws.proofs.Signed.{sum}
+use Rattle.laws.proofs.Sums.{sum-same, sum-most}
 use Rattle.laws.proofs.Best.{bestUpTo, cut-short-same as best-same}
 use Rattle.prediction.specs.declared.ceiling.Ceiled.{Ceiled}
 use Rattle.prediction.specs.Samples.{distance}
-use Rattle.prediction.specs.Plane.{sampleAt}
+use Rattle.prediction.specs.Plane.{sampleAt, nearestIn}
+use Rattle.prediction.specs.Internal.{rowApart}
 use Rattle.prediction.specs.Ceiled.{CeiledIs}
 use Rattle.prediction.proofs.Ceilings.{lesser}
 use Rattle.denoiser.specs.declared.Block.{Block}
 use Rattle.denoiser.specs.declared.Displacement.{Displacement}
 use Rattle.denoiser.specs.declared.PlaneNumbers.{PlaneNumbers}
 use Rattle.denoiser.specs.Search.{sadOf, displacedBy, neighbourOf, blockSearch, still}
-use Rattle.denoiser.specs.Internal.{Lies, planeIn, packedPlane, lumaCost, lumaRow, stepBest}
-use Rattle.denoiser.proofs.Planes.{sample-byte}
+use Rattle.denoiser.specs.Internal.{Runs, Lies, planeIn, packedPlane, lumaCost, lumaRow, stepBest}
+use Rattle.denoiser.proofs.Planes.{luma-at, displaced-at, sample-byte}
 use Rattle.denoiser.proofs.Searches.{search-steps}
 
 module _ (centre bytes : List ℕ) (p : PlaneNumbers) (b : Block) (d : Displacement) where
   -- the SAD of a block is the sum of its rows, as they are cut at the picture's edge
-  luma-rows : lumaCost centre bytes p b d ≡ sumBelow (lumaRow centre bytes p b d) (b .rows)
+  pub luma-rows : lumaCost centre bytes p b d ≡ sumBelow (lumaRow centre bytes p b d) (b .rows)
   unfolding lumaCost lumaRow sadOf
   luma-rows = refl
 
@@ -57,6 +60,43 @@ module _ (centre bytes : List ℕ) (p : PlaneNumbers) (b : Block) (d : Displacem
     pub luma-whole : Lies b (p .columns) (p .rows) → ((k : ℕ) → getD centre k 0 < 256) → ((k : ℕ) → getD bytes k 0 < 256) → 65281 ≤ ceiling
         → r .sad ≡ lumaCost centre bytes p b d
     luma-whole l u v h = omega (arith, luma-read, luma-most l u v)
+
+-- a block of 16 by 16 that lies in the plane once moved: its rows stand a stride apart from its first sample on
+module _ (centre bytes : List ℕ) (p : PlaneNumbers) (b : Block) (d : Displacement) (left top : ℕ)
+    (x-is : left ≡ nearestIn (p .columns) (pos (b .x) +ℤ d .dx)) (y-is : top ≡ nearestIn (p .rows) (pos (b .y) +ℤ d .dy))
+    (wide : Runs (b .x) 16 (d .dx) (p .columns)) (high : Runs (b .y) 16 (d .dy) (p .rows))
+    (square : (b .columns ≡ 16) × (b .rows ≡ 16)) (l : Lies b (p .columns) (p .rows)) where
+  -- sixteen coordinates are all moved as far as their first
+  moved : (n x a k : ℕ) (v : ℤ) → a ≡ nearestIn n (pos x +ℤ v) → Runs x 16 v n → k < 16 → a + k ≡ nearestIn n (pos (x + k) +ℤ v)
+  moved n x a k v e r h = omega (arith, sum (pos x) v .up, sum (pos (x + k)) v .up, r .left, r .right)
+
+  pub in-bounds : (left + 15 < p .columns) × (top + 15 < p .rows)
+  in-bounds = (
+    omega (arith, x-is, sum (pos (b .x)) (d .dx) .up, wide .left, wide .right),
+    omega (arith, y-is, sum (pos (b .y)) (d .dy) .up, high .left, high .right),
+  )
+
+  across : (t w u j k : ℕ) → t * w + u + j * w + k ≡ (t + j) * w + (u + k)
+  across t w u j k = rw (add-mul t j w) (omega arith)
+
+  across-from : (s t w u j k : ℕ) → s + t * w + u + j * w + k ≡ s + (t + j) * w + (u + k)
+  across-from s t w u j k = rw (add-mul t j w) (omega arith)
+
+  pub row-placed : (j : ℕ) → j < 16
+      → rowApart centre (b .y * p .columns + b .x) (p .columns) bytes (p .start + top * p .stride + left) (p .stride) j ≡ lumaRow centre bytes p b d j
+  unfolding rowApart lumaRow
+  row-placed j h = rw (square .0) (sum-same _ _ 16 (λ k g. at k g))
+    where
+      at : (k : ℕ) → k < 16
+          → distance (getD centre (b .y * p .columns + b .x + j * p .columns + k) 0) (getD bytes (p .start + top * p .stride + left + j * p .stride + k) 0)
+          ≡ distance (sampleAt (packedPlane 0 (p .columns) (p .rows) centre) (pos (b .x + k)) (pos (b .y + j)))
+          (displacedBy d (sampleAt (planeIn bytes p)) (pos (b .x + k)) (pos (b .y + j)))
+      at k g =
+          rw (across (b .y) (p .columns) (b .x) j k, across-from (p .start) top (p .stride) left j k)
+          (ap (λ (s : ℕ). distance s (getD bytes (p .start + (top + j) * p .stride + (left + k)) 0))
+          (sym (luma-at (p .columns) (p .rows) centre (b .x + k) (b .y + j) (omega (arith, l .wide, square .0)) (omega (arith, l .high, square .1))))
+          ∙ ap (distance (sampleAt (packedPlane 0 (p .columns) (p .rows) centre) (pos (b .x + k)) (pos (b .y + j))))
+          (displaced-at bytes p d (b .x + k) (b .y + j) (moved (p .columns) (b .x) left k (d .dx) x-is wide g) (moved (p .rows) (b .y) top j (d .dy) y-is high h)))
 
 -- the block search cut short: a displacement is read up to the best SAD
 abbrev pub stepUpTo : (Displacement → ℕ) → ℕ → Displacement → Displacement

@@ -11,7 +11,7 @@ use prediction::motion_vector::Mv;
 use search::Site;
 use sixtap::sixtap_mb_luma;
 ghost use mathlib.Core.Path.{_≡_};
-ghost use Prim.Native.Nat.{_+_, _-_, _*_, _≤_, _<_};
+ghost use Prim.Native.Nat.{_+_, _-_, _*_, _/_, _≤_, _<_};
 ghost use mathlib.Core.Bool.{true};
 ghost use lib.ListN.{length, getD};
 ghost use Rattle.laws.specs.Signed.{above, below};
@@ -19,9 +19,9 @@ ghost use Rattle.laws.specs.Sums.{sumBelow};
 ghost use Rattle.prediction.specs.Samples.{distance};
 ghost use Rattle.prediction.specs.Vector.{wholeOf};
 ghost use Rattle.prediction.specs.Ceiled.{CeiledIs};
-ghost use Rattle.prediction.specs.Internal.{rowApart};
+ghost use Rattle.prediction.specs.Internal.{rowApart, parts};
 ghost use Rattle.search.specs.Sad.{sad16, rowSad};
-ghost use Rattle.search.specs.Internal.{costAt, costRow, copiedAt, predictedFrom, Ready, Copied, Inside, twoApart};
+ghost use Rattle.search.specs.Internal.{costAt, costRow, copiedAt, predictedFrom, Ready, Copied, Inside, Lying, twoApart};
 
 // The SAD of two rows of a block, which follow one another, and of two rows of a plane.
 fn two_rows_sad(a: &[u8], b: &[u8], c: &[u8]) -> u32
@@ -68,58 +68,57 @@ fn row_sad(a: &[u8], b: &[u8]) -> u32
     sum
 }
 
-// The SAD of row r of a block and of the rows of a plane.
-fn row_at(src: &[u8], plane: &[u8], at: usize, stride: usize, r: usize) -> u32
-    requires { ⌜ (length (now src) ≡ 256) × (at + 15 * stride + 16 ≤ length (now plane)) × (r < 16) ⌝ }
-    ensures { λ s. ⌜ s ≡ rowApart (now (src .entry)) 0 16 (now (plane .entry)) at stride r ⌝ }
-{
-    let i = r * 16;
-    let j = at + r * stride;
-    row_sad(&src[i..i + 16], &plane[j..j + 16])
-}
-
-// The SAD of the same rows up to a ceiling: each row, once measured, is held against what is left of it. Two rows a turn.
-fn rows_up_to(src: &[u8], plane: &[u8], at: usize, stride: usize, ceiling: u32) -> Ceiled
+// The same rows up to a ceiling: each row, once measured, is held against what is left of it. Four rows a turn. The number of rows
+// measured, plus 32 times what is left of the ceiling where it was not reached: one number, which comes back in a register.
+fn rows_up_to(src: &[u8], plane: &[u8], at: usize, stride: usize, ceiling: u32) -> u64
     requires { ⌜ (length (now src) ≡ 256) × (at + 15 * stride + 16 ≤ length (now plane)) ⌝ }
-    ensures { λ r. ⌜ CeiledIs (rowApart (now (src .entry)) 0 16 (now (plane .entry)) at stride) 16 ceiling r ⌝ }
+    ensures { λ r. ⌜ CeiledIs (rowApart (now (src .entry)) 0 16 (now (plane .entry)) at stride) 16 ceiling (parts ceiling r) × (r / 32 ≤ ceiling) ⌝ }
 {
     let mut left = ceiling;
     let mut r: usize = 0;
     while r < 16 {
-        let one = row_at(src, plane, at, stride, r);
-        if left <= one {
-            return Ceiled {
-                sad: ceiling,
-                rows: r as u32 + 1,
-            };
+        let i = r * 16;
+        let j = at + r * stride;
+        let first = row_sad(&src[i..i + 16], &plane[j..j + 16]);
+        if left <= first {
+            return r as u64 + 1;
         }
-        let rest = left - one;
-        let two = row_at(src, plane, at, stride, r + 1);
-        if rest <= two {
-            return Ceiled {
-                sad: ceiling,
-                rows: r as u32 + 2,
-            };
+        let left2 = left - first;
+        let i2 = i + 16;
+        let j2 = j + stride;
+        let second = row_sad(&src[i2..i2 + 16], &plane[j2..j2 + 16]);
+        if left2 <= second {
+            return r as u64 + 2;
         }
-        left = rest - two;
-        r += 2;
+        let left3 = left2 - second;
+        let i3 = i2 + 16;
+        let j3 = j2 + stride;
+        let third = row_sad(&src[i3..i3 + 16], &plane[j3..j3 + 16]);
+        if left3 <= third {
+            return r as u64 + 3;
+        }
+        let left4 = left3 - third;
+        let i4 = i3 + 16;
+        let j4 = j3 + stride;
+        let fourth = row_sad(&src[i4..i4 + 16], &plane[j4..j4 + 16]);
+        if left4 <= fourth {
+            return r as u64 + 4;
+        }
+        left = left4 - fourth;
+        r += 4;
     }
-    Ceiled {
-        sad: ceiling - left,
-        rows: 16,
-    }
+    (left as u64) * 32 + 16
 }
 
-// The same; where no sum reaches the ceiling, no row is held against it.
-fn rows_sad(src: &[u8], plane: &[u8], at: usize, stride: usize, ceiling: u32) -> Ceiled
-    requires { ⌜ (length (now src) ≡ 256) × (at + 15 * stride + 16 ≤ length (now plane)) ⌝ }
-    ensures { λ r. ⌜ CeiledIs (rowApart (now (src .entry)) 0 16 (now (plane .entry)) at stride) 16 ceiling r ⌝ }
+// The value and the rows.
+fn parted(ceiling: u32, both: u64) -> Ceiled
+    requires { ⌜ both / 32 ≤ ceiling ⌝ }
+    ensures { λ r. ⌜ r ≡ parts ceiling both ⌝ }
 {
-    if NO_CEILING <= ceiling {
-        let sum = all_rows_sad(src, plane, at, stride);
-        return Ceiled { sad: sum, rows: 16 };
+    Ceiled {
+        sad: ceiling - (both / 32) as u32,
+        rows: (both % 32) as u32,
     }
-    rows_up_to(src, plane, at, stride, ceiling)
 }
 
 // The SAD of two blocks up to a ceiling.
@@ -127,19 +126,18 @@ pub(crate) fn block_sad(src: &[u8], pred: &[u8], ceiling: u32) -> Ceiled
     requires { ⌜ (length (now src) ≡ 256) × (length (now pred) ≡ 256) ⌝ }
     ensures { λ r. ⌜ CeiledIs (rowSad (now (src .entry)) (now (pred .entry))) 16 ceiling r ⌝ }
 {
-    rows_sad(src, pred, 0, 16, ceiling)
+    parted(ceiling, rows_up_to(src, pred, 0, 16, ceiling))
 }
 
-// The SAD of two blocks, not cut short: no sum reaches this ceiling.
+// The SAD of two blocks, not cut short.
 pub(crate) fn uncut_block_sad(src: &[u8], pred: &[u8]) -> u32
     requires { ⌜ (length (now src) ≡ 256) × (length (now pred) ≡ 256) ⌝ }
     ensures { λ r. ⌜ r ≡ sad16 (now (src .entry)) (now (pred .entry)) ⌝ }
 {
-    let read = block_sad(src, pred, NO_CEILING);
-    read.sad
+    all_rows_sad(src, pred, 0, 16)
 }
 
-// The SAD at a vector in eighths whose fractions are not read, by the fetch: the block may lie anywhere.
+// The SAD at a vector in eighths whose fractions are not read: the block is copied.
 fn fetched_sad(plane: &[u8], s: Site, src: &[u8], eighths: Mv, ceiling: u32) -> Ceiled
     requires { ⌜ Ready (now plane) s (now src) ⌝ }
     ensures { λ r. ⌜ CeiledIs (rowSad (now (src .entry)) (copiedAt (now (plane .entry)) s eighths)) 16 ceiling r ⌝ }
@@ -149,6 +147,34 @@ fn fetched_sad(plane: &[u8], s: Site, src: &[u8], eighths: Mv, ceiling: u32) -> 
     let fetched = fetch_luma_mb_whole_pixel(plane, s.stride, s.width, s.height, x, y, eighths);
     let block = fetched.block;
     block_sad(src, &block, ceiling)
+}
+
+// The SAD at a vector in eighths, by the halo and the six-tap filter.
+fn filtered_sad(plane: &[u8], s: Site, src: &[u8], eighths: Mv, ceiling: u32) -> Ceiled
+    requires { ⌜ Ready (now plane) s (now src) ⌝ }
+    ensures { λ r. ⌜ CeiledIs (rowSad (now (src .entry)) (predictedFrom (now (plane .entry)) s eighths)) 16 ceiling r ⌝ }
+{
+    let x = 16 * s.column;
+    let y = 16 * s.row;
+    let fetched = fetch_luma_mb_halo(plane, s.stride, s.width, s.height, x, y, eighths);
+    let halo = fetched.halo;
+    let filtered = sixtap_mb_luma(halo, fraction(eighths.col), fraction(eighths.row));
+    let block = filtered.block;
+    block_sad(src, &block, ceiling)
+}
+
+// The SAD at any vector, by a fetch: without fractions the block is copied, else filtered. It may lie anywhere.
+fn predicted_sad(plane: &[u8], s: Site, src: &[u8], mv: Mv, ceiling: u32) -> Ceiled
+    requires { ⌜ Ready (now plane) s (now src) ⌝ }
+    ensures { λ r. ⌜ CeiledIs (costRow (now (plane .entry)) s (now (src .entry)) mv) 16 ceiling r ⌝ }
+{
+    let eighths = stored_luma_mv(mv);
+    if fraction(eighths.col) == 0 {
+        if fraction(eighths.row) == 0 {
+            return fetched_sad(plane, s, src, eighths, ceiling);
+        }
+    }
+    filtered_sad(plane, s, src, eighths, ceiling)
 }
 
 // The first coordinate of a macroblock moved by the whole offset of a component in eighths, plus 4096.
@@ -170,46 +196,59 @@ fn lies_inside(start: usize, n: usize) -> bool
     start - 4096 + 16 <= n
 }
 
-// The SAD at a vector without fractions: rows of the plane where the block lies inside.
+// Where the first sample of the copied block stands in the plane, plus 1; 0 where the block does not lie inside.
+fn inside_at(plane: &[u8], s: Site, eighths: Mv) -> usize
+    requires { ⌜ (s .column ≤ 1023) × (s .row ≤ 1023) × ((s .height - 1) * s .stride + s .width ≤ length (now plane)) ⌝ }
+    ensures { λ r. ⌜ (0 < r → Lying (now (plane .entry)) s eighths (r - 1)) ⌝ }
+{
+    let left = displaced(s.column, eighths.col);
+    let top = displaced(s.row, eighths.row);
+    if lies_inside(left, s.width) {
+        if lies_inside(top, s.height) {
+            return (top - 4096) * s.stride + (left - 4096) + 1;
+        }
+    }
+    0
+}
+
+// The SAD at a vector without fractions: rows of the plane where the block lies inside, else by a fetch, whose answer is read field
+// by field: the compiler then keeps both in registers.
 pub(crate) fn whole_sad(plane: &[u8], s: Site, src: &[u8], mv: Mv, ceiling: u32) -> Ceiled
     requires { ⌜ Ready (now plane) s (now src) ⌝ }
     requires { ⌜ Copied mv ⌝ }
     ensures { λ r. ⌜ CeiledIs (costRow (now (plane .entry)) s (now (src .entry)) mv) 16 ceiling r ⌝ }
 {
-    let eighths = stored_luma_mv(mv);
-    let left = displaced(s.column, eighths.col);
-    let top = displaced(s.row, eighths.row);
-    if lies_inside(left, s.width) {
-        if lies_inside(top, s.height) {
-            let at = (top - 4096) * s.stride + (left - 4096);
-            return rows_sad(src, plane, at, s.stride, ceiling);
-        }
+    let at = inside_at(plane, s, stored_luma_mv(mv));
+    if 0 < at {
+        return parted(ceiling, rows_up_to(src, plane, at - 1, s.stride, ceiling));
     }
-    fetched_sad(plane, s, src, eighths, ceiling)
+    let read = predicted_sad(plane, s, src, mv, ceiling);
+    Ceiled {
+        sad: read.sad,
+        rows: read.rows,
+    }
 }
 
-// The same, not cut short: no sum reaches this ceiling.
+// The same as `predicted_sad`; stands between it and `uncut_whole_sad`, so that the compiler keeps what that one has in registers.
+fn far_sad(plane: &[u8], s: Site, src: &[u8], mv: Mv, ceiling: u32) -> Ceiled
+    requires { ⌜ Ready (now plane) s (now src) ⌝ }
+    ensures { λ r. ⌜ CeiledIs (costRow (now (plane .entry)) s (now (src .entry)) mv) 16 ceiling r ⌝ }
+{
+    predicted_sad(plane, s, src, mv, ceiling)
+}
+
+// The same, not cut short: no sum reaches this ceiling, so that no row inside is held against it.
 pub(crate) fn uncut_whole_sad(plane: &[u8], s: Site, src: &[u8], mv: Mv) -> u32
     requires { ⌜ Ready (now plane) s (now src) ⌝ }
     requires { ⌜ Copied mv ⌝ }
     ensures { λ r. ⌜ r ≡ costAt (now (plane .entry)) s (now (src .entry)) mv ⌝ }
 {
-    let read = whole_sad(plane, s, src, mv, NO_CEILING);
+    let at = inside_at(plane, s, stored_luma_mv(mv));
+    if 0 < at {
+        return all_rows_sad(src, plane, at - 1, s.stride);
+    }
+    let read = far_sad(plane, s, src, mv, NO_CEILING);
     read.sad
-}
-
-// The SAD at a vector in eighths, by the halo and the six-tap filter.
-fn filtered_sad(plane: &[u8], s: Site, src: &[u8], eighths: Mv, ceiling: u32) -> Ceiled
-    requires { ⌜ Ready (now plane) s (now src) ⌝ }
-    ensures { λ r. ⌜ CeiledIs (rowSad (now (src .entry)) (predictedFrom (now (plane .entry)) s eighths)) 16 ceiling r ⌝ }
-{
-    let x = 16 * s.column;
-    let y = 16 * s.row;
-    let fetched = fetch_luma_mb_halo(plane, s.stride, s.width, s.height, x, y, eighths);
-    let halo = fetched.halo;
-    let filtered = sixtap_mb_luma(halo, fraction(eighths.col), fraction(eighths.row));
-    let block = filtered.block;
-    block_sad(src, &block, ceiling)
 }
 
 // The SAD at any vector: whole vectors copy, others are filtered.
@@ -223,5 +262,5 @@ pub(crate) fn any_sad(plane: &[u8], s: Site, src: &[u8], mv: Mv, ceiling: u32) -
             return whole_sad(plane, s, src, mv, ceiling);
         }
     }
-    filtered_sad(plane, s, src, eighths, ceiling)
+    predicted_sad(plane, s, src, mv, ceiling)
 }

@@ -1,6 +1,6 @@
 -- Functions that measure up to a ceiling: what their loops keep, the ways out, and what their callers read. Assumes nothing.
-use mathlib.Core.Path.{_≡_, refl, sym, _∙_}
-use Prim.Native.Nat.{ℕ, _+_, _-_, _≤_, _<_, min}
+use mathlib.Core.Path.{_≡_, refl, sym, ap, _∙_}
+use Prim.Native.Nat.{ℕ, _+_, _-_, _*_, _/_, _%_, _≤_, _<_, min}
 use native.Mathlib.Omega.{arith}
 use Rattle.laws.specs.Sums.{sumBelow}
 use Rattle.laws.specs.Ceiling.{reached, sumUpTo}
@@ -9,6 +9,7 @@ use Rattle.laws.proofs.First.{Passed, pass-none}
 use Rattle.laws.proofs.Ceiling.{whole, all-rows, rows-same, sum-rows-same, stops, goes-on, ends}
 use Rattle.prediction.specs.declared.ceiling.Ceiled.{Ceiled}
 use Rattle.prediction.specs.Ceiled.{CeiledIs}
+use Rattle.prediction.specs.Internal.{parts}
 
 -- r rows are measured, and the ceiling was reached with none of them; `left` is what is left of it
 pub record Measuring (row : ℕ → ℕ) (ceiling r left : ℕ) : Type 0 where
@@ -45,6 +46,21 @@ module _ (row : ℕ → ℕ) (ceiling : ℕ) where
   unceiled n sum e h =
       let l : sumBelow row n < ceiling = omega arith in
       record { sad = e ∙ sym (whole row n ceiling l); rows = sym (all-rows row n ceiling l) }
+
+-- value and rows, in one number; what is left is no more than the ceiling
+pub both-parts : (row : ℕ → ℕ) (n ceiling left rows both : ℕ) → CeiledIs row n ceiling (record { sad = ceiling - left; rows = rows }) → rows < 32
+    → left ≤ ceiling → both ≡ left * 32 + rows → CeiledIs row n ceiling (parts ceiling both) × (both / 32 ≤ ceiling)
+both-parts row n ceiling left rows both i h m e =
+    let s : both / 32 ≡ left = omega arith in
+    let r : both % 32 ≡ rows = omega arith in
+    (record { sad = ap (λ (k : ℕ). ceiling - k) s ∙ i .sad; rows = r ∙ i .rows }, omega arith)
+
+pub both-cut : (row : ℕ → ℕ) (n ceiling rows both : ℕ) → CeiledIs row n ceiling (record { sad = ceiling; rows = rows }) → rows < 32 → both ≡ rows
+    → CeiledIs row n ceiling (parts ceiling both) × (both / 32 ≤ ceiling)
+both-cut row n ceiling rows both i h e =
+    let s : ceiling - both / 32 ≡ ceiling = omega arith in
+    let r : both % 32 ≡ rows = omega arith in
+    (record { sad = s ∙ i .sad; rows = r ∙ i .rows }, omega arith)
 
 -- what is read: the lesser of the sum and the ceiling
 pub lesser : (row : ℕ → ℕ) (n ceiling : ℕ) (r : Ceiled) → CeiledIs row n ceiling r → r .sad ≡ min (sumBelow row n) ceiling

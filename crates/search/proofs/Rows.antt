@@ -28,11 +28,11 @@ row-packed src block j =
     ap (λ (n : ℕ). sumBelow (λ k. distance (getD src (n + k) 0) (getD block (n + k) 0)) 16) z
 
 -- a row of a block and of a plane, by the two parts that hold it
-pub row-here : (src plane : List ℕ) (at stride r : ℕ)
-    → sumBelow (λ k. distance (getD (midOf (r * 16) 16 src) k 0) (getD (midOf (at + r * stride) 16 plane) k 0)) 16 ≡ rowApart src 0 16 plane at stride r
-row-here src plane at stride r =
-    let z : 0 + r * 16 ≡ r * 16 = omega arith in
-    rw z at (row-is src 0 16 plane at stride r)
+pub row-here : (src plane : List ℕ) (at stride r i j : ℕ) → i ≡ r * 16 → j ≡ at + r * stride
+    → sumBelow (λ k. distance (getD (midOf i 16 src) k 0) (getD (midOf j 16 plane) k 0)) 16 ≡ rowApart src 0 16 plane at stride r
+row-here src plane at stride r i j e f =
+    let z : i ≡ 0 + r * 16 = omega arith in
+    rw (z, f) (row-is src 0 16 plane at stride r)
 
 -- two rows more of a block and of a plane
 pub rows-more : (src plane : List ℕ) (at stride r s v : ℕ) → s ≡ sumBelow (rowApart src 0 16 plane at stride) r

@@ -16,7 +16,7 @@ use Rattle.laws.proofs.Sums.{sum-same, sum-most}
 use Rattle.laws.specs.Outcome.{firstOf}
 use Rattle.prediction.specs.declared.motion_vector.Mv.{Mv}
 use Rattle.prediction.specs.Samples.{distance}
-use Rattle.prediction.specs.Vector.{storedMv, wholeOf, fractionOf}
+use Rattle.prediction.specs.Vector.{wholeOf, fractionOf}
 use Rattle.prediction.specs.Plane.{Samples, Plane, sampleAt}
 use Rattle.prediction.specs.Filter.{sixtap}
 use Rattle.prediction.specs.Prediction.{squareOf, macroblockOf, haloOf, offsetBy, predictedMb, filteredMb}
@@ -27,7 +27,7 @@ use Rattle.sixtap.specs.Refusals.{filterLines}
 use Rattle.sixtap.proofs.Laws.{square-at, predicted-byte, filtered-halo, whole-copy, sample-byte}
 use Rattle.search.specs.declared.Site.{Site}
 use Rattle.search.specs.Sad.{sad16, rowSad, costOf}
-use Rattle.search.specs.Internal.{planeOf, costAt, copiedAt, predictedFrom, Ready, Copied, Inside}
+use Rattle.search.specs.Internal.{planeOf, costAt, copiedAt, predictedFrom, Ready, Inside}
 use Rattle.search.proofs.Accepted.{placed}
 
 -- one SAD of samples is at most 65280
@@ -52,10 +52,10 @@ cost-most plane column row src v h =
     sad-most src _ h (square-byte _ (λ x y. predicted-byte sixtap _ _ _ x y))
 
 -- without fractions the prediction is a copy
-pub copied-is : (bytes : List ℕ) (s : Site) (v : Mv) → Copied v → ((k : ℕ) → getD bytes k 0 < 256)
-    → copiedAt bytes s (storedMv v) ≡ predictedFrom bytes s (storedMv v)
+pub copied-is : (bytes : List ℕ) (s : Site) (v : Mv) → fractionOf (v .row) ≡ 0 → fractionOf (v .col) ≡ 0 → ((k : ℕ) → getD bytes k 0 < 256)
+    → copiedAt bytes s v ≡ predictedFrom bytes s v
 unfolding predictedMb
-copied-is bytes s v c h = rw (c .row, c .col) (sym (whole-copy _ (λ x y. sample-byte (planeOf bytes s) h _ _)))
+copied-is bytes s v row col h = rw (row, col) (sym (whole-copy _ (λ x y. sample-byte (planeOf bytes s) h _ _)))
 
 -- the sixteen coordinates of a displaced macroblock; inside, nothing is cut
 coordinate : (mb k r : ℕ) (v : ℤ) → r + below (wholeOf v) ≡ 16 * mb + 4096 + above (wholeOf v) → 4096 ≤ r

@@ -2,7 +2,7 @@
 use mathlib.Core.Path.{_≡_}
 use mathlib.Core.Bool.{false}
 use mathlib.Core.List.{List}
-use Prim.Native.Nat.{ℕ, _+_, _-_, _*_, _%_, _≤_}
+use Prim.Native.Nat.{ℕ, _+_, _-_, _*_, _%_, _≤_, _<_}
 use lib.IntN.{ℤ, natAbs}
 use lib.ListN.{length, getD}
 use Rattle.laws.specs.Signed.{above, below}
@@ -13,6 +13,7 @@ use Rattle.prediction.specs.Plane.{Plane, lumaPlane, sampleAt}
 use Rattle.prediction.specs.Filter.{sixtap}
 use Rattle.prediction.specs.Prediction.{macroblockOf, offsetBy, predictedMb}
 use Rattle.prediction.specs.Refusals.{badSize, shortPlane}
+use Rattle.prediction.specs.Internal.{rowApart}
 use Rattle.search.specs.declared.Site.{Site}
 use Rattle.search.specs.declared.DiamondResult.{DiamondResult}
 use Rattle.search.specs.Refusals.{badMacroblock}
@@ -57,6 +58,11 @@ pub record Copied (v : Mv) : Type 0 where
 pub record Inside (start n : ℕ) : Type 0 where
   pub least : 4096 ≤ start
   pub most : start - 4096 + 16 ≤ n
+
+-- the 16 rows of a block that is copied by a vector in eighths stand in the bytes, a stride apart, from a place on
+pub record Lying (bytes : List ℕ) (s : Site) (v : Mv) (at : ℕ) : Type 0 where
+  pub ends : at + 15 * s .stride + 16 ≤ length bytes
+  pub row : (src : List ℕ) (j : ℕ) → j < 16 → rowApart src 0 16 bytes at (s .stride) j ≡ rowSad src (copiedAt bytes s v) j
 
 -- a component of a whole vector in range: a multiple of 4, from -1020 to 1020
 pub record Grid (z : ℤ) : Type 0 where

@@ -36,11 +36,11 @@ whole-sad-requires c κs =
 returns : tie.Need-returns
 returns c = search needs
 
-filtered-sad-requires : tie.Need-filtered-sad-requires
-filtered-sad-requires c κs = search needs
+predicted-sad-requires : tie.Need-predicted-sad-requires
+predicted-sad-requires c κs = search needs
 
 returns-2 : tie.Need-returns-2
-returns-2 c = rw (c .before .before .before .before .stored-luma-mv .ensures) at (c .filtered-sad .ensures)
+returns-2 c = search needs
 
 pub any-sad-spec : {M : Type 1} → statement M
 any-sad-spec =
@@ -51,5 +51,5 @@ any-sad-spec =
     fraction-requires-2
     whole-sad-requires
     returns
-    filtered-sad-requires
+    predicted-sad-requires
     returns-2)

@@ -1,17 +1,63 @@
 -- `uncut_whole_sad` meets its contract. Assumes nothing.
+use mathlib.Core.Path.{sym, ap, _∙_}
+use mathlib.Core.List.{List}
+use Prim.Native.Nat.{ℕ}
 use native.Mathlib.Omega.{arith}
 use borrow.Author.Needs.{needs}
+use Rattle.laws.proofs.Sums.{sum-same}
+use Rattle.prediction.specs.declared.motion_vector.Mv.{Mv}
+use Rattle.prediction.specs.Vector.{storedMv}
+use Rattle.search.specs.Sad.{sad16, costOf}
+use Rattle.search.specs.Internal.{copiedAt}
+use Rattle.search.proofs.Accepted.{placed}
+use Rattle.search.proofs.Rows.{sad-rows}
+use Rattle.search.proofs.SadLaws.{copied-is}
 use Rattle.search.proofs.Ceilings.{cost-whole}
 use Rattle.motion_search.proofs.sads.uncut_whole_sad.Statement.{statement}
 use Rattle.motion_search.proofs.sads.uncut_whole_sad.Tie as tie
 
-whole-sad-requires : tie.Need-whole-sad-requires
-whole-sad-requires c κs = search needs
+stored-luma-mv-requires : tie.Need-stored-luma-mv-requires
+stored-luma-mv-requires c κs = search needs
+
+inside-at-requires : tie.Need-inside-at-requires
+inside-at-requires c κs = let p = placed _ _ _ (c .before .before .before .pre .0) in (p .column, p .row, p .long)
+
+sub-all-rows-sad : tie.Need-sub-all-rows-sad
+sub-all-rows-sad c = search needs
+
+all-rows-sad-requires : tie.Need-all-rows-sad-requires
+all-rows-sad-requires c κs =
+    let i = c .before in
+    (i .before .before .before .before .pre .0 .source, i .inside-at .ensures (c .if1 .taken) .ends)
 
 returns : tie.Need-returns
+unfolding costOf
 returns c =
-    let src = c .before .shared-slice-known2 .given in
-    cost-whole _ _ _ _ 65281 _ (λ i. omega (arith, src i)) (omega arith) (c .whole-sad .ensures)
+    let i = c .before .before in
+    let e = i .before in
+    let s = e .before .before .before in
+    c .all-rows-sad .ensures .0
+    ∙ sum-same _ _ 16 (i .inside-at .ensures (c .before .if1 .taken) .row (s .args .src .now))
+    ∙ sym (sad-rows (s .args .src .now) _)
+    ∙ ap (λ (v : Mv). sad16 (s .args .src .now) (copiedAt (s .args .plane .now) (s .args .s) v)) (e .stored-luma-mv .ensures)
+    ∙ ap (sad16 (s .args .src .now)) (copied-is (s .args .plane .now) (s .args .s) (storedMv (s .args .mv)) (s .pre .1 .row) (s .pre .1 .col) (λ k. omega (arith, e .before .before .shared-slice-known .given k)))
+
+far-sad-requires : tie.Need-far-sad-requires
+far-sad-requires c κs = search needs
+
+returns-2 : tie.Need-returns-2
+returns-2 c =
+    let src = c .before .before .before .before .shared-slice-known2 .given in
+    cost-whole _ _ _ _ 65281 _ (λ i. omega (arith, src i)) (omega arith) (c .far-sad .ensures)
 
 pub uncut-whole-sad-spec : {M : Type 1} → statement M
-uncut-whole-sad-spec = tie.close (tie.spec whole-sad-requires returns)
+uncut-whole-sad-spec =
+    tie.close
+    (tie.spec
+    stored-luma-mv-requires
+    inside-at-requires
+    sub-all-rows-sad
+    all-rows-sad-requires
+    returns
+    far-sad-requires
+    returns-2)
