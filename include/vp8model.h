@@ -11,7 +11,8 @@
  * The first field of every struct that is returned, but vp8model_frame, is `refusal`: 0 where the call is
  * accepted, else the number of the first refusal that applies. Every field that the refusal does not name
  * is then 0, and every lent slice and array holds what it held before. Calls that are never refused give
- * their number, frame or array as it is, and vp8model_stored_luma_mv a refusal of 0.
+ * their number, frame or array as it is; vp8model_stored_luma_mv and vp8model_block_sad_16x16_up_to, which
+ * are never refused either, give a refusal of 0.
  *
  *   1  the centre index is not below the frame count
  *   2  the frame count exceeds 1024
@@ -43,6 +44,7 @@ extern "C" {
 #define VP8MODEL_WHOLE_PIXEL_STEP 4
 #define VP8MODEL_HALF_PIXEL_STEP 2
 #define VP8MODEL_QUARTER_PIXEL_STEP 1
+#define VP8MODEL_NO_CEILING 65281
 #define VP8MODEL_MAX_STRENGTH 6
 #define VP8MODEL_NUMBERS_PER_FRAME 7
 
@@ -69,6 +71,13 @@ typedef struct vp8model_sad {
     uint32_t refusal;
     uint32_t sad;
 } vp8model_sad;
+
+/* A SAD up to a ceiling: the lesser of the two, and the rows measured, 1 to 16; refusal is always 0. */
+typedef struct vp8model_ceiled {
+    uint32_t refusal;
+    uint32_t sad;
+    uint32_t rows;
+} vp8model_ceiled;
 
 /* The best vector of a refinement, in quarter pixels, and its SAD. */
 typedef struct vp8model_search {
@@ -146,8 +155,13 @@ vp8model_status vp8model_fetch_luma_mb_halo(const uint8_t *plane, size_t plane_l
                                             int16_t mv_row, int16_t mv_col, uint8_t halo[441]);
 
 /* SADs of a source macroblock and its prediction. vp8model_block_sad_16x16 takes both as they are and
- * refuses nothing. The others: refusals 8 to 12; the one at any vector never gives 12. */
+ * refuses nothing; nor does vp8model_block_sad_16x16_up_to, which adds row by row and ends with the
+ * first row after which the sum is not below the ceiling: at a ceiling of 0 with the first row. A ceiling
+ * of VP8MODEL_NO_CEILING or more is never reached: the whole SAD and 16 rows. The others: refusals 8 to
+ * 12; the one at any vector never gives 12. */
 uint32_t vp8model_block_sad_16x16(const uint8_t src[256], const uint8_t pred[256]);
+vp8model_ceiled vp8model_block_sad_16x16_up_to(const uint8_t src[256], const uint8_t pred[256],
+                                               uint32_t ceiling);
 vp8model_sad vp8model_mb_luma_sad_at_whole_mv(const uint8_t *plane, size_t plane_len, size_t stride,
                                               size_t width, size_t height, size_t mb_col, size_t mb_row,
                                               const uint8_t src_y[256], int16_t mv_row, int16_t mv_col);

@@ -1,7 +1,7 @@
 /*
  * Calls every function of vp8model.h, accepted and refused, and holds the answers against values worked out by
- * hand from document 01. Every slice and array is lent from between guard entries. On a refusal, and for const
- * arguments always, the lent entries are as they were.
+ * hand from document 01, those of the SAD up to a ceiling from request 4. Every slice and array is lent from
+ * between guard entries. On a refusal, and for const arguments always, the lent entries are as they were.
  *
  * Prints one line, `calls: N checks, M failed`, after a line for each check that fails. C11 and C++.
  */
@@ -413,6 +413,64 @@ static void block_sads(void)
     CHECK(same_bytes(&source) && same_bytes(&block));
 }
 
+/* The SAD of the source and the block up to a ceiling. */
+static int is_ceiled(uint32_t ceiling, uint32_t sad, uint32_t rows)
+{
+    vp8model_ceiled c = vp8model_block_sad_16x16_up_to(at_bytes(&source), at_bytes(&block), ceiling);
+    return c.refusal == 0 && c.sad == sad && c.rows == rows && same_bytes(&source) && same_bytes(&block);
+}
+
+static void ceiled_sads(void)
+{
+    CHECK(VP8MODEL_NO_CEILING == 256 * 255 + 1);
+    /* equal blocks: a sum of 0 is below every ceiling but 0 */
+    lend_bytes(&source, 256, 9);
+    lend_bytes(&block, 256, 9);
+    CHECK(is_ceiled(0, 0, 1));
+    CHECK(is_ceiled(1, 0, 16));
+    CHECK(is_ceiled(VP8MODEL_NO_CEILING, 0, 16));
+    CHECK(is_ceiled(UINT32_MAX, 0, 16));
+    /* black against white, both ways: 4080 in every row */
+    for (int way = 0; way < 2; way++) {
+        lend_bytes(&source, 256, way == 0 ? 0 : 255);
+        lend_bytes(&block, 256, way == 0 ? 255 : 0);
+        CHECK(is_ceiled(0, 0, 1));
+        CHECK(is_ceiled(1, 1, 1));
+        CHECK(is_ceiled(4080, 4080, 1));
+        CHECK(is_ceiled(4081, 4081, 2));
+        CHECK(is_ceiled(61200, 61200, 15));
+        CHECK(is_ceiled(61201, 61201, 16));
+        CHECK(is_ceiled(65280, 65280, 16));
+        CHECK(is_ceiled(VP8MODEL_NO_CEILING, 65280, 16));
+        CHECK(is_ceiled(UINT32_MAX, 65280, 16));
+    }
+    /* only row 5 differs, by 1 in every sample */
+    lend_bytes(&source, 256, 9);
+    lend_bytes(&block, 256, 9);
+    memset(at_bytes(&block) + 5 * 16, 10, 16);
+    keep_bytes(&block);
+    CHECK(is_ceiled(0, 0, 1));
+    CHECK(is_ceiled(1, 1, 6));
+    CHECK(is_ceiled(16, 16, 6));
+    CHECK(is_ceiled(17, 16, 16));
+    /* only the last sample differs */
+    lend_bytes(&block, 256, 9);
+    at_bytes(&block)[255] = 8;
+    keep_bytes(&block);
+    CHECK(is_ceiled(1, 1, 16));
+    CHECK(is_ceiled(2, 1, 16));
+    /* row y differs by y + 1, up and down by turns: after n rows the sum is 8 n (n + 1) */
+    lend_bytes(&source, 256, 100);
+    for (int i = 0; i < 256; i++)
+        at_bytes(&block)[i] = (uint8_t)(100 + (i % 2 == 0 ? i / 16 + 1 : -(i / 16 + 1)));
+    keep_bytes(&block);
+    for (uint32_t n = 1; n <= 16; n++) {
+        CHECK(is_ceiled(8 * n * (n + 1), 8 * n * (n + 1), n));
+        CHECK(is_ceiled(8 * n * (n - 1) + 1, 8 * n * (n - 1) + 1, n));
+    }
+    CHECK(is_ceiled(2177, 2176, 16));
+}
+
 /* A searched macroblock, of column and row 1 unless a case says otherwise. */
 typedef struct place {
     size_t length;
@@ -733,6 +791,7 @@ int main(void)
     plane_refusals();
     fetches();
     block_sads();
+    ceiled_sads();
     sads();
     diamonds();
     refinements();
