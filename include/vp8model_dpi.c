@@ -83,6 +83,13 @@ void vp8model_dpi_fetch_luma_mb_halo(const svOpenArrayHandle plane, uint64_t str
     memcpy(answer, &s, sizeof s);
 }
 
+void vp8model_dpi_block_sad_16x16_up_to(const uint8_t *src, const uint8_t *pred, uint32_t ceiling,
+                                        svBitVecVal *answer)
+{
+    vp8model_ceiled c = vp8model_block_sad_16x16_up_to(src, pred, ceiling);
+    memcpy(answer, &c, sizeof c);
+}
+
 void vp8model_dpi_mb_luma_sad_at_whole_mv(const svOpenArrayHandle plane, uint64_t stride, uint64_t width,
                                           uint64_t height, uint64_t mb_col, uint64_t mb_row,
                                           const uint8_t *src_y, int16_t mv_row, int16_t mv_col,
