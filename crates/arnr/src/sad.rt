@@ -291,7 +291,8 @@ fn placed_sad(
     ceiling: u32,
 ) -> Ceiled
     requires { ⌜ (start + (top + 15) * stride + left + 15 < length (now bytes)) × ((y + 15) * columns + x + 15 < length (now centre)) ⌝ }
-    ensures { λ r. ⌜ CeiledIs (rowApart (now (centre .entry)) (y * columns + x) columns (now (bytes .entry)) (start + top * stride + left) stride) 16 ceiling r ⌝ }
+    ensures { λ r. ⌜ CeiledIs (rowApart (now (centre .entry)) (y * columns + x) columns
+        (now (bytes .entry)) (start + top * stride + left) stride) 16 ceiling r ⌝ }
 {
     inner_sad(
         centre,

@@ -1,12 +1,11 @@
 -- The SAD of a macroblock up to a ceiling, and searches that are cut short by the best so far. Assumes nothing.
 use mathlib.Core.Path.{_≡_, refl, sym, ap, _∙_}
-use mathlib.Core.Bool.{Bool, true, false, cond}
+use mathlib.Core.Bool.{cond}
 use mathlib.Core.List.{List}
-use Prim.Native.Nat.{ℕ, zero, suc, _+_, _≤_, _<_, min}
+use Prim.Native.Nat.{ℕ, zero, suc, _≤_, _<_, min}
 use native.Mathlib.Omega.{arith}
-use borrow.Author.Tests.{ltb-true, ltb-false, lt-ltb, le-ltb}
+use borrow.Author.Tests.{le-ltb}
 use native.Mathlib.Decide.{decLt}
-use lib.Dec.{ltb}
 use lib.IntN.{ℤ, pos}
 use lib.ListN.{getD}
 use Rattle.laws.specs.Signed.{minus}
@@ -14,7 +13,7 @@ use Rattle.laws.specs.Sums.{sumBelow}
 use Rattle.laws.specs.Ceiling.{sumUpTo, rowsMeasured}
 use Rattle.laws.specs.Best.{bestOf}
 use Rattle.laws.proofs.Ceiling.{whole, all-rows}
-use Rattle.laws.proofs.Best.{bestUpTo, cut-short-same}
+use Rattle.laws.proofs.Best.{bestUpTo, cut-short-same as best-same}
 use Rattle.prediction.specs.declared.motion_vector.Mv.{Mv}
 use Rattle.prediction.specs.declared.ceiling.Ceiled.{Ceiled}
 use Rattle.prediction.specs.Ceiled.{CeiledIs}
@@ -94,7 +93,7 @@ module _ (cost : Mv → ℕ) where
       ap (λ (r : DiamondResult). cond (sameMv (r .mv) (b .mv)) r (descendUpTo cost limit r)) (round-same b)
       ∙ ap (cond (sameMv (roundOf cost b .mv) (b .mv)) (roundOf cost b)) (descend-same limit (roundOf cost b))
 
-  -- no search's answer depends on it
+  -- the start is measured at 65281, which no cost reaches
   pub diamond-same : (centre : Mv) (limit : ℕ) → ((v : Mv) → cost v ≤ 65280) → diamondUpTo cost centre limit ≡ diamond cost centre limit
   unfolding startAt diamond
   diamond-same centre limit h =
@@ -104,7 +103,12 @@ module _ (cost : Mv → ℕ) where
   pub refine-same : (step : ℕ) (centre : Mv) → ((v : Mv) → cost v ≤ 65280) → refineUpTo cost step centre ≡ refine cost step centre
   unfolding refine
   refine-same step centre h =
-      let b = cut-short-same cost centre (rasterOf centre step) 8 in
+      let b = best-same cost centre (rasterOf centre step) 8 in
       let e : min (cost (bestOf cost centre (rasterOf centre step) 8)) 65281 ≡ cost (bestOf cost centre (rasterOf centre step) 8)
       = omega (arith, h (bestOf cost centre (rasterOf centre step) 8)) in
       rw (b, e)
+
+  -- both at once: no search's answer depends on what it leaves unmeasured
+  pub cut-short-same : ((v : Mv) → cost v ≤ 65280) → (centre : Mv) (limit step : ℕ)
+      → (diamondUpTo cost centre limit ≡ diamond cost centre limit) × (refineUpTo cost step centre ≡ refine cost step centre)
+  cut-short-same h centre limit step = (diamond-same centre limit h, refine-same step centre h)

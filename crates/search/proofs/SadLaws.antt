@@ -27,7 +27,7 @@ use Rattle.sixtap.specs.Refusals.{filterLines}
 use Rattle.sixtap.proofs.Laws.{square-at, predicted-byte, filtered-halo, whole-copy, sample-byte}
 use Rattle.search.specs.declared.Site.{Site}
 use Rattle.search.specs.Sad.{sad16, rowSad, costOf}
-use Rattle.search.specs.Internal.{planeOf, costAt, copiedAt, predictedFrom, Ready, Inside}
+use Rattle.search.specs.Internal.{planeOf, copiedAt, predictedFrom, Ready, Inside}
 use Rattle.search.proofs.Accepted.{placed}
 
 -- one SAD of samples is at most 65280
