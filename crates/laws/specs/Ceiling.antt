@@ -5,14 +5,14 @@ use lib.Dec.{leb}
 use Rattle.laws.specs.Sums.{sumBelow}
 use Rattle.laws.specs.First.{firstBelow}
 
--- with row k the sum is no longer below the ceiling
+-- with row k the sum is the ceiling or more
 abbrev pub reached : (ℕ → ℕ) → ℕ → ℕ → Bool
 reached row ceiling k = leb ceiling (sumBelow row (k + 1))
 
--- the number of rows measured, of n: the first row with which the sum is no longer below the ceiling is the last; n where there is none
+-- how many of n rows are measured: up to the first that brings the sum to the ceiling or past it; n where none does
 unfoldable pub rowsMeasured : (ℕ → ℕ) → ℕ → ℕ → ℕ
 rowsMeasured row n ceiling = min (firstBelow (reached row ceiling) n + 1) n
 
--- the lesser of the sum of n rows and the ceiling
+-- the value: the sum of n rows, or the ceiling where that is less
 unfoldable pub sumUpTo : (ℕ → ℕ) → ℕ → ℕ → ℕ
 sumUpTo row n ceiling = min (sumBelow row n) ceiling

@@ -68,8 +68,8 @@ fn row_sad(a: &[u8], b: &[u8]) -> u32
     sum
 }
 
-// The same rows up to a ceiling: each row, once measured, is held against what is left of it. Four rows a turn. The number of rows
-// measured, plus 32 times what is left of the ceiling where it was not reached: one number, which comes back in a register.
+// The rows of `all_rows_sad` up to a ceiling: each row, once measured, is held against what is left of it. Four rows a turn. The number
+// of rows measured, plus 32 times what is left of the ceiling where it was not reached: one number, which comes back in a register.
 fn rows_up_to(src: &[u8], plane: &[u8], at: usize, stride: usize, ceiling: u32) -> u64
     requires { ⌜ (length (now src) ≡ 256) × (at + 15 * stride + 16 ≤ length (now plane)) ⌝ }
     ensures { λ r. ⌜ CeiledIs (rowApart (now (src .entry)) 0 16 (now (plane .entry)) at stride) 16 ceiling (parts ceiling r) × (r / 32 ≤ ceiling) ⌝ }
@@ -110,7 +110,7 @@ fn rows_up_to(src: &[u8], plane: &[u8], at: usize, stride: usize, ceiling: u32) 
     (left as u64) * 32 + 16
 }
 
-// The value and the rows.
+// The value and the rows out of that number.
 fn parted(ceiling: u32, both: u64) -> Ceiled
     requires { ⌜ both / 32 ≤ ceiling ⌝ }
     ensures { λ r. ⌜ r ≡ parts ceiling both ⌝ }
@@ -237,7 +237,7 @@ fn far_sad(plane: &[u8], s: Site, src: &[u8], mv: Mv, ceiling: u32) -> Ceiled
     predicted_sad(plane, s, src, mv, ceiling)
 }
 
-// The same, not cut short: no sum reaches this ceiling, so that no row inside is held against it.
+// The same as `whole_sad`, not cut short: no sum reaches NO_CEILING, so that rows inside are held against nothing.
 pub(crate) fn uncut_whole_sad(plane: &[u8], s: Site, src: &[u8], mv: Mv) -> u32
     requires { ⌜ Ready (now plane) s (now src) ⌝ }
     requires { ⌜ Copied mv ⌝ }

@@ -1,12 +1,12 @@
 -- Functions that measure up to a ceiling: what their loops keep, the ways out, and what their callers read. Assumes nothing.
-use mathlib.Core.Path.{_≡_, refl, sym, ap, _∙_}
+use mathlib.Core.Path.{_≡_, refl, ap, _∙_}
 use Prim.Native.Nat.{ℕ, _+_, _-_, _*_, _/_, _%_, _≤_, _<_, min}
 use native.Mathlib.Omega.{arith}
 use Rattle.laws.specs.Sums.{sumBelow}
 use Rattle.laws.specs.Ceiling.{reached, sumUpTo}
 use Rattle.laws.proofs.Sums.{sum-none, sum-more}
 use Rattle.laws.proofs.First.{Passed, pass-none}
-use Rattle.laws.proofs.Ceiling.{whole, all-rows, rows-same, sum-rows-same, stops, goes-on, ends}
+use Rattle.laws.proofs.Ceiling.{rows-same, sum-rows-same, stops, goes-on, ends}
 use Rattle.prediction.specs.declared.ceiling.Ceiled.{Ceiled}
 use Rattle.prediction.specs.Ceiled.{CeiledIs}
 use Rattle.prediction.specs.Internal.{parts}
@@ -40,12 +40,6 @@ module _ (row : ℕ → ℕ) (ceiling : ℕ) where
       let s = ends row n ceiling (m .below) in
       let e : ceiling - left ≡ sumBelow row n = omega (arith, m .room) in
       record { sad = e ∙ s .0; rows = s .1 }
-
-  -- no sum reaches the ceiling
-  pub unceiled : (n sum : ℕ) → sum ≡ sumBelow row n → sum < ceiling → CeiledIs row n ceiling (record { sad = sum; rows = n })
-  unceiled n sum e h =
-      let l : sumBelow row n < ceiling = omega arith in
-      record { sad = e ∙ sym (whole row n ceiling l); rows = sym (all-rows row n ceiling l) }
 
 -- value and rows, in one number; what is left is no more than the ceiling
 pub both-parts : (row : ℕ → ℕ) (n ceiling left rows both : ℕ) → CeiledIs row n ceiling (record { sad = ceiling - left; rows = rows }) → rows < 32

@@ -1,6 +1,6 @@
 // A sum of absolute differences (SAD) that is measured up to a ceiling.
 
-// The lesser of the sum and the ceiling, and the number of rows measured.
+// The value, which is the sum, or the ceiling where that is less; and how many rows were measured.
 pub struct Ceiled {
     pub sad: u32,
     pub rows: u32,

@@ -63,7 +63,7 @@ descendUpTo cost (suc limit) best =
 abbrev pub diamondUpTo : (Mv → ℕ) → Mv → ℕ → DiamondResult
 diamondUpTo cost centre limit = descendUpTo cost limit (startAt (λ v. min (cost v) 65281) centre)
 
--- a refinement cut short
+-- a refinement cut short: each neighbour is read up to the cost of the best so far, the SAD that is given up to 65281
 abbrev pub refineUpTo : (Mv → ℕ) → ℕ → Mv → SearchResult
 refineUpTo cost step centre =
     record { mv = bestUpTo cost centre (rasterOf centre step) 8; sad = min (cost (bestUpTo cost centre (rasterOf centre step) 8)) 65281 }
