@@ -12,7 +12,7 @@ ghost use mathlib.Core.Path.{_≡_};
 ghost use Prim.Native.Nat.{_≤_, _<_};
 ghost use Rattle.laws.specs.Signed.{above, below};
 ghost use Rattle.search.specs.Search.{tried, roundOf, diamond};
-ghost use Rattle.search.specs.Internal.{costAt, Ready, Whole, Good};
+ghost use Rattle.search.specs.Internal.{costAt, rowStep, colStep, Ready, Whole, Good};
 
 // One neighbour of the best so far, measured up to the best SAD.
 fn try_at(
@@ -51,23 +51,57 @@ fn try_at(
     }
 }
 
-// One round: up, down, left, right.
+// How far down neighbour k of a round lies, in quarter pixels: the neighbours come as up, down, left, right.
+fn row_step(k: u32) -> i16
+    ensures { λ r. ⌜ r ≡ rowStep k ⌝ }
+{
+    if k == 0 {
+        return -WHOLE_PIXEL_STEP;
+    }
+    if k == 1 { WHOLE_PIXEL_STEP } else { 0 }
+}
+
+// And how far to the right.
+fn col_step(k: u32) -> i16
+    ensures { λ r. ⌜ r ≡ colStep k ⌝ }
+{
+    if k == 2 {
+        return -WHOLE_PIXEL_STEP;
+    }
+    if k == 3 { WHOLE_PIXEL_STEP } else { 0 }
+}
+
+// One round: its four neighbours. In a loop, so that `try_at` has one caller and the compiler makes one of the two.
 fn round(plane: &[u8], s: Site, src: &[u8], best: DiamondResult) -> DiamondResult
     requires { ⌜ Ready (now plane) s (now src) ⌝ }
     requires { ⌜ Good (costAt (now plane) s (now src)) best ⌝ }
     requires { ⌜ (best .sads < 3999999990) × (best .rounds < 4000000000) ⌝ }
     ensures { λ r. ⌜ r ≡ roundOf (costAt (now (plane .entry)) s (now (src .entry))) best ⌝ }
 {
-    let up = try_at(plane, s, src, best, -WHOLE_PIXEL_STEP, 0);
-    let down = try_at(plane, s, src, up, WHOLE_PIXEL_STEP, 0);
-    let left = try_at(plane, s, src, down, 0, -WHOLE_PIXEL_STEP);
-    let right = try_at(plane, s, src, left, 0, WHOLE_PIXEL_STEP);
-    let mv = right.mv;
+    let mut next = best;
+    let mut k: u32 = 0;
+    while k < 4 {
+        next = try_at(plane, s, src, next, row_step(k), col_step(k));
+        k += 1;
+    }
+    let mv = next.mv;
     DiamondResult {
         mv: mv,
-        sad: right.sad,
-        sads: right.sads,
-        rounds: right.rounds + 1,
+        sad: next.sad,
+        sads: next.sads,
+        rounds: next.rounds + 1,
+    }
+}
+
+// The start: one SAD computed, no round made.
+fn started(mv: Mv, sad: u32) -> DiamondResult
+    ensures { λ r. ⌜ r ≡ record { mv = mv; sad = sad; sads = 1; rounds = 0 } ⌝ }
+{
+    DiamondResult {
+        mv: mv,
+        sad: sad,
+        sads: 1,
+        rounds: 0,
     }
 }
 
@@ -83,13 +117,7 @@ pub(crate) fn small_diamond(
     ensures { λ r. ⌜ r ≡ diamond (costAt (now (plane .entry)) s (now (src .entry))) center limit ⌝ }
 {
     let mv = to_grid(center);
-    let sad = uncut_whole_sad(plane, s, src, mv);
-    let mut best = DiamondResult {
-        mv: mv,
-        sad: sad,
-        sads: 1,
-        rounds: 0,
-    };
+    let mut best = started(mv, uncut_whole_sad(plane, s, src, mv));
     while best.rounds < limit {
         let next = round(plane, s, src, best);
         if best.sad <= next.sad {

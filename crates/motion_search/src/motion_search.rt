@@ -4,14 +4,13 @@ use crate::refinement::refine_at;
 use crate::refusals::bad_macroblock;
 use crate::refusals::off_grid;
 use crate::refusals::out_of_range;
-use crate::sads::any_sad;
 use crate::sads::block_sad;
 use crate::sads::uncut_block_sad;
+use crate::sads::uncut_sad;
 use crate::sads::uncut_whole_sad;
 use fetch::bad_size;
 use fetch::short_plane;
 use prediction::ceiling::Ceiled;
-use prediction::ceiling::NO_CEILING;
 use prediction::motion_vector::Mv;
 use search::DiamondAnswer;
 use search::SadAnswer;
@@ -89,8 +88,7 @@ fn sad_luma(plane: &[u8], s: Site, src: &[u8], mv: Mv, n: u32) -> SadAnswer
 {
     let first = checked(plane, s, mv, n);
     if let SadAnswer::Sad(_) = first {
-        let read = any_sad(plane, s, src, mv, NO_CEILING);
-        SadAnswer::Sad(read.sad)
+        SadAnswer::Sad(uncut_sad(plane, s, src, mv))
     } else {
         first
     }

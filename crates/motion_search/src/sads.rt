@@ -1,6 +1,6 @@
 // Sums of absolute differences (SADs) of macroblocks.
-use fetch::fetch_luma_mb_halo;
-use fetch::fetch_luma_mb_whole_pixel;
+use fetch::fill_luma_mb_halo;
+use fetch::fill_luma_mb_whole_pixel;
 use prediction::ceiling::Ceiled;
 use prediction::ceiling::NO_CEILING;
 use prediction::inverse_transform::abs_diff;
@@ -137,16 +137,33 @@ pub(crate) fn uncut_block_sad(src: &[u8], pred: &[u8]) -> u32
     all_rows_sad(src, pred, 0, 16)
 }
 
-// The SAD at a vector in eighths whose fractions are not read: the block is copied.
+// The block that is copied at a vector in eighths, whose fractions are not read, into a lent array.
+fn fill_copied(plane: &[u8], s: Site, eighths: Mv, block: &mut [u8; 256])
+    requires { ⌜ Ready (now plane) s (now block) ⌝ }
+    ensures { λ _. ⌜ now (block .exit) ≡ copiedAt (now (plane .entry)) s eighths ⌝ }
+{
+    let x = 16 * s.column;
+    let y = 16 * s.row;
+    fill_luma_mb_whole_pixel(plane, s.stride, s.width, s.height, x, y, eighths, block);
+}
+
+// The SAD of that block up to a ceiling, and not cut short.
 fn fetched_sad(plane: &[u8], s: Site, src: &[u8], eighths: Mv, ceiling: u32) -> Ceiled
     requires { ⌜ Ready (now plane) s (now src) ⌝ }
     ensures { λ r. ⌜ CeiledIs (rowSad (now (src .entry)) (copiedAt (now (plane .entry)) s eighths)) 16 ceiling r ⌝ }
 {
-    let x = 16 * s.column;
-    let y = 16 * s.row;
-    let fetched = fetch_luma_mb_whole_pixel(plane, s.stride, s.width, s.height, x, y, eighths);
-    let block = fetched.block;
+    let mut block = [0u8; 256];
+    fill_copied(plane, s, eighths, &mut block);
     block_sad(src, &block, ceiling)
+}
+
+fn uncut_fetched_sad(plane: &[u8], s: Site, src: &[u8], eighths: Mv) -> u32
+    requires { ⌜ Ready (now plane) s (now src) ⌝ }
+    ensures { λ r. ⌜ r ≡ sad16 (now (src .entry)) (copiedAt (now (plane .entry)) s eighths) ⌝ }
+{
+    let mut block = [0u8; 256];
+    fill_copied(plane, s, eighths, &mut block);
+    uncut_block_sad(src, &block)
 }
 
 // The SAD at a vector in eighths, by the halo and the six-tap filter.
@@ -156,15 +173,14 @@ fn filtered_sad(plane: &[u8], s: Site, src: &[u8], eighths: Mv, ceiling: u32) ->
 {
     let x = 16 * s.column;
     let y = 16 * s.row;
-    let fetched = fetch_luma_mb_halo(plane, s.stride, s.width, s.height, x, y, eighths);
-    let halo = fetched.halo;
+    let mut halo = [0u8; 441];
+    fill_luma_mb_halo(plane, s.stride, s.width, s.height, x, y, eighths, &mut halo);
     let filtered = sixtap_mb_luma(halo, fraction(eighths.col), fraction(eighths.row));
-    let block = filtered.block;
-    block_sad(src, &block, ceiling)
+    block_sad(src, &filtered.block, ceiling)
 }
 
 // The SAD at any vector, by a fetch: without fractions the block is copied, else filtered. It may lie anywhere.
-fn predicted_sad(plane: &[u8], s: Site, src: &[u8], mv: Mv, ceiling: u32) -> Ceiled
+pub(crate) fn any_sad(plane: &[u8], s: Site, src: &[u8], mv: Mv, ceiling: u32) -> Ceiled
     requires { ⌜ Ready (now plane) s (now src) ⌝ }
     ensures { λ r. ⌜ CeiledIs (costRow (now (plane .entry)) s (now (src .entry)) mv) 16 ceiling r ⌝ }
 {
@@ -222,45 +238,38 @@ pub(crate) fn whole_sad(plane: &[u8], s: Site, src: &[u8], mv: Mv, ceiling: u32)
     if 0 < at {
         return parted(ceiling, rows_up_to(src, plane, at - 1, s.stride, ceiling));
     }
-    let read = predicted_sad(plane, s, src, mv, ceiling);
+    let read = any_sad(plane, s, src, mv, ceiling);
     Ceiled {
         sad: read.sad,
         rows: read.rows,
     }
 }
 
-// The same as `predicted_sad`; stands between it and `uncut_whole_sad`, so that the compiler keeps what that one has in registers.
-fn far_sad(plane: &[u8], s: Site, src: &[u8], mv: Mv, ceiling: u32) -> Ceiled
-    requires { ⌜ Ready (now plane) s (now src) ⌝ }
-    ensures { λ r. ⌜ CeiledIs (costRow (now (plane .entry)) s (now (src .entry)) mv) 16 ceiling r ⌝ }
-{
-    predicted_sad(plane, s, src, mv, ceiling)
-}
-
-// The same as `whole_sad`, not cut short: no sum reaches NO_CEILING, so that rows inside are held against nothing.
+// The same, not cut short: no sum reaches NO_CEILING, so that no row is held against it.
 pub(crate) fn uncut_whole_sad(plane: &[u8], s: Site, src: &[u8], mv: Mv) -> u32
     requires { ⌜ Ready (now plane) s (now src) ⌝ }
     requires { ⌜ Copied mv ⌝ }
     ensures { λ r. ⌜ r ≡ costAt (now (plane .entry)) s (now (src .entry)) mv ⌝ }
 {
-    let at = inside_at(plane, s, stored_luma_mv(mv));
+    let eighths = stored_luma_mv(mv);
+    let at = inside_at(plane, s, eighths);
     if 0 < at {
         return all_rows_sad(src, plane, at - 1, s.stride);
     }
-    let read = far_sad(plane, s, src, mv, NO_CEILING);
-    read.sad
+    uncut_fetched_sad(plane, s, src, eighths)
 }
 
-// The SAD at any vector: whole vectors copy, others are filtered.
-pub(crate) fn any_sad(plane: &[u8], s: Site, src: &[u8], mv: Mv, ceiling: u32) -> Ceiled
+// The SAD at any vector, not cut short.
+pub(crate) fn uncut_sad(plane: &[u8], s: Site, src: &[u8], mv: Mv) -> u32
     requires { ⌜ Ready (now plane) s (now src) ⌝ }
-    ensures { λ r. ⌜ CeiledIs (costRow (now (plane .entry)) s (now (src .entry)) mv) 16 ceiling r ⌝ }
+    ensures { λ r. ⌜ r ≡ costAt (now (plane .entry)) s (now (src .entry)) mv ⌝ }
 {
     let eighths = stored_luma_mv(mv);
     if fraction(eighths.col) == 0 {
         if fraction(eighths.row) == 0 {
-            return whole_sad(plane, s, src, mv, ceiling);
+            return uncut_whole_sad(plane, s, src, mv);
         }
     }
-    predicted_sad(plane, s, src, mv, ceiling)
+    let read = any_sad(plane, s, src, mv, NO_CEILING);
+    read.sad
 }

@@ -22,7 +22,9 @@ use Rattle.prediction.specs.Filter.{sixtap}
 use Rattle.prediction.specs.Prediction.{squareOf, macroblockOf, haloOf, offsetBy, predictedMb, filteredMb}
 use Rattle.prediction.specs.Refusals.{badOrigin, blockOf}
 use Rattle.prediction.specs.Internal.{rowApart}
-use Rattle.fetch.specs.Refusals.{fetchLines}
+use Rattle.fetch.specs.declared.FetchAnswer.{FetchAnswer}
+use Rattle.fetch.specs.Refusals.{fetchLines, fetchOutcome}
+use Rattle.fetch.proofs.Squares.{fetched}
 use Rattle.sixtap.specs.Refusals.{filterLines}
 use Rattle.sixtap.proofs.Laws.{square-at, predicted-byte, filtered-halo, whole-copy, sample-byte}
 use Rattle.search.specs.declared.Site.{Site}
@@ -123,9 +125,14 @@ module _ (bytes : List ℕ) (s : Site) (src : List ℕ) (r : Ready bytes s src) 
       let p = placed bytes s src r in
       simp (le-ltb 16368 (16 * s .column) (omega (arith, p .column)), le-ltb 16368 (16 * s .row) (omega (arith, p .row)))
 
-  -- the block beside the answer is the accepted one
-  pub fetched-is : (n : ℕ) (a block : List ℕ) → block ≡ blockOf n (firstOf (fetchLines (planeOf bytes s) (16 * s .column) (16 * s .row)) a) → block ≡ a
-  fetched-is n a block e = simp (r .size, r .long, origin-fine) at e
+  -- what a fetch has filled is the accepted block
+  pub filled-is : (block held : List ℕ) (answer : FetchAnswer)
+      → fetchOutcome answer held ≡ firstOf (fetchLines (planeOf bytes s) (16 * s .column) (16 * s .row)) block → held ≡ block
+  filled-is block held answer e = fetched answer held block (simp (r .size, r .long, origin-fine) at e)
+
+-- a copied block has 256 samples
+pub copied-long : (bytes : List ℕ) (s : Site) (v : Mv) → length (copiedAt bytes s v) ≡ 256
+copied-long bytes s v = long (offsetBy (16 * s .column) (16 * s .row) v (sampleAt (planeOf bytes s)))
 
 pub filtered-is : (x y : ℤ) (n : ℕ) (a block : List ℕ) → block ≡ blockOf n (firstOf (filterLines (fractionOf x) (fractionOf y)) a) → block ≡ a
 filtered-is x y n a block e = simp (le-ltb 7 (fractionOf x) (small x), le-ltb 7 (fractionOf y) (small y)) at e

@@ -1,82 +1,78 @@
 -- `round` meets its contract. Assumes nothing.
-use mathlib.Core.Path.{ap, _∙_}
+use Prim.Native.Nat.{_-_, _≤_}
+use mathlib.Core.Path.{_≡_, _∙_}
 use native.Mathlib.Omega.{arith}
 use borrow.Author.Needs.{needs}
-use lib.IntN.{pos, negℤ}
-use Rattle.search.specs.Search.{down, left, right, counted, roundOf}
-use Rattle.search.specs.Internal.{costAt}
-use Rattle.search.proofs.Descent.{Tried, tried-is}
+use mir.Syntax.{w16}
+use mir.Val.{toZ, ofZ}
+use Rattle.laws.proofs.Signed.{back}
+use Rattle.search.specs.Internal.{costAt, rowStep, colStep}
+use Rattle.search.proofs.Steps.{step-small, Trying, trying-none, trying-more, trying-all}
 use Rattle.motion_search.proofs.diamond.round.Statement.{statement}
 use Rattle.motion_search.proofs.diamond.round.Tie as tie
 
--- what each neighbour did
-module _ (c : tie.After-try-at) where
-  first : Tried (costAt (c .before .before .before .args .plane .now) (c .before .before .before .args .s) (c .before .before .before .args .src .now)) (negℤ (pos 4)) (pos 0) (c .before .before .before .args .best) (c .try-at .result)
-  first = rw (c .try-at .ensures) (tried-is _ _ _ _ (c .before .before .before .pre .1 .0))
+abbrev Inv-loop : tie.InvT-loop
+Inv-loop plane s src next₀ k₀ next k = (k ≤ 4) × Trying (costAt plane s src) next₀ k next
 
-module _ (c : tie.After-try-at2) where
-  second : Tried (costAt (c .before .before .before .before .args .plane .now) (c .before .before .before .before .args .s) (c .before .before .before .before .args .src .now)) (pos 4) (pos 0) (c .before .try-at .result) (c .try-at2 .result)
-  second = rw (c .try-at2 .ensures) (tried-is _ _ _ _ (first (c .before) .good))
+abbrev μ-loop : tie.MeasureT-loop
+μ-loop plane s src next₀ k₀ next k = 4 - k
 
-module _ (c : tie.After-try-at3) where
-  third : Tried (costAt (c .before .before .before .before .before .args .plane .now) (c .before .before .before .before .before .args .s) (c .before .before .before .before .before .args .src .now)) (pos 0) (negℤ (pos 4)) (c .before .try-at2 .result) (c .try-at3 .result)
-  third = rw (c .try-at3 .ensures) (tried-is _ _ _ _ (second (c .before) .good))
+loop-holds : tie.Need-loop-holds Inv-loop μ-loop
+loop-holds c = (omega arith, trying-none _ _ (c .before .before .pre .1 .0))
 
-module _ (c : tie.After-try-at4) where
-  fourth : Tried (costAt (c .before .before .before .before .before .before .args .plane .now) (c .before .before .before .before .before .before .args .s) (c .before .before .before .before .before .before .args .src .now)) (pos 0) (pos 4) (c .before .try-at3 .result) (c .try-at4 .result)
-  fourth = rw (c .try-at4 .ensures) (tried-is _ _ _ _ (third (c .before) .good))
+row-step-requires : tie.Need-row-step-requires Inv-loop μ-loop
+row-step-requires c κs = search needs
 
-sub-try-at : tie.Need-sub-try-at
-sub-try-at c = search needs
+col-step-requires : tie.Need-col-step-requires Inv-loop μ-loop
+col-step-requires c κs = search needs
 
-try-at-requires : tie.Need-try-at-requires
+-- how far the neighbour lies
+module _ (c : tie.After-col-step Inv-loop μ-loop) where
+  down : toZ w16 (ofZ w16 (c .before .row-step .result)) ≡ rowStep (c .before .before .before .loop .k)
+  down = back w16 (c .before .row-step .result) (c .before .row-step .ok) ∙ c .before .row-step .ensures
+
+  right : toZ w16 (ofZ w16 (c .col-step .result)) ≡ colStep (c .before .before .before .loop .k)
+  right = back w16 (c .col-step .result) (c .col-step .ok) ∙ c .col-step .ensures
+
+try-at-requires : tie.Need-try-at-requires Inv-loop μ-loop
 try-at-requires c κs =
-    let s = c .before .before in
-    (s .pre .0, (s .pre .1 .0 .grid, (omega (arith, s .pre .1 .1), omega arith)))
+    let l = c .before .before .before .loop in
+    let s = c .before .before .before .before .before .before in
+    let t = l .inv .1 in
+    (s .pre .0, (t .good .grid, (omega (arith, t .more, l .inv .0, s .pre .1 .1), rw (down c, right c) (step-small (l .k)))))
 
-try-at-requires-2 : tie.Need-try-at-requires-2
-try-at-requires-2 c κs =
-    (c .before .before .before .pre .0, (first c .good .grid, (omega (arith, first c .more), omega arith)))
+add-k : tie.Need-add-k Inv-loop μ-loop
+add-k c = search needs
 
-sub-try-at-2 : tie.Need-sub-try-at-2
-sub-try-at-2 c = search needs
+loop-less : tie.Need-loop-less Inv-loop μ-loop
+loop-less c = search needs
 
-try-at-requires-3 : tie.Need-try-at-requires-3
-try-at-requires-3 c κs =
-    (c .before .before .before .before .pre .0, (second c .good .grid, (omega (arith, first (c .before) .more, second c .more), omega arith)))
+loop-again : tie.Need-loop-again Inv-loop μ-loop
+loop-again c =
+    let l = c .before .before .before .before .loop in
+    (omega (arith, c .before .before .before .loop-test .taken), trying-more _ _ _ _ _ (l .inv .1) (rw (down (c .before), right (c .before)) at (c .try-at .ensures)))
 
-try-at-requires-4 : tie.Need-try-at-requires-4
-try-at-requires-4 c κs = (
-  c .before .before .before .before .before .pre .0,
-  (third c .good .grid, (omega (arith, first (c .before .before) .more, second (c .before) .more, third c .more), omega arith)),
-)
+add-t11 : tie.Need-add-t11 Inv-loop μ-loop
+add-t11 c = omega (arith, c .before .before .before .loop .inv .1 .round, c .before .before .before .before .before .before .pre .1 .1)
 
-add-t11 : tie.Need-add-t11
-add-t11 c =
-    let a = c .before .before in
-    omega (arith, first (a .before .before .before) .round, second (a .before .before) .round, third (a .before) .round, fourth a .round, a .before .before .before .before .before .before .pre .1 .1)
-
-returns : tie.Need-returns
-unfolding roundOf
+returns : tie.Need-returns Inv-loop μ-loop
 returns c =
-    let a = c .before .before in
-    let s = a .before .before .before .before .before .before .args in
-    let cost = costAt (s .plane .now) (s .s) (s .src .now) in
-    ap counted
-    (a .try-at4 .ensures
-    ∙ ap (right cost)
-    (a .before .try-at3 .ensures
-    ∙ ap (left cost) (a .before .before .try-at2 .ensures ∙ ap (down cost) (a .before .before .before .try-at .ensures))))
+    let l = c .before .before .before .loop in
+    let all : l .k ≡ 4 = omega (arith, l .inv .0, c .before .before .loop-test .left) in
+    trying-all _ _ _ (rw all at (l .inv .1))
 
 pub round-spec : {M : Type 1} → statement M
 round-spec =
     tie.close
     (tie.spec
-    sub-try-at
+    Inv-loop
+    μ-loop
+    loop-holds
+    row-step-requires
+    col-step-requires
     try-at-requires
-    try-at-requires-2
-    sub-try-at-2
-    try-at-requires-3
-    try-at-requires-4
+    add-k
+    loop-less
+    loop-again
     add-t11
     returns)

@@ -13,10 +13,10 @@ use Rattle.motion_search.proofs.diamond.small_diamond.Statement.{statem
 use Rattle.motion_search.proofs.diamond.small_diamond.Tie as tie
 
 abbrev Inv-loop : tie.InvT-loop
-Inv-loop plane s src limit sad best₀ best = Going (costAt plane s src) limit best₀ best
+Inv-loop plane s src limit best₀ best = Going (costAt plane s src) limit best₀ best
 
 abbrev μ-loop : tie.MeasureT-loop
-μ-loop plane s src limit sad best₀ best = limit - best .rounds
+μ-loop plane s src limit best₀ best = limit - best .rounds
 
 to-grid-requires : tie.Need-to-grid-requires Inv-loop μ-loop
 to-grid-requires c κs = search needs
@@ -26,23 +26,26 @@ uncut-whole-sad-requires c κs =
     let s = c .before .before .before in
     (s .pre, rw (c .to-grid .ensures) (whole-copied _ (whole (s .args .center))))
 
+started-requires : tie.Need-started-requires Inv-loop μ-loop
+started-requires c κs = search needs
+
 -- the start
-begun : (c : tie.After-uncut-whole-sad Inv-loop μ-loop)
-    → record { mv = c .before .to-grid .result; sad = c .uncut-whole-sad .result; sads = 1; rounds = 0 }
-    ≡ startAt (costAt (c .before .before .before .before .args .plane .now) (c .before .before .before .before .args .s) (c .before .before .before .before .args .src .now)) (c .before .before .before .before .args .center)
-begun c = start-at _ _ _ _ (c .before .to-grid .ensures) (c .uncut-whole-sad .ensures)
+begun : (c : tie.After-started Inv-loop μ-loop)
+    → c .started .result
+    ≡ startAt (costAt (c .before .before .before .before .before .args .plane .now) (c .before .before .before .before .before .args .s) (c .before .before .before .before .before .args .src .now)) (c .before .before .before .before .before .args .center)
+begun c = c .started .ensures ∙ start-at _ _ _ _ (c .before .before .to-grid .ensures) (c .before .uncut-whole-sad .ensures)
 
 loop-holds : tie.Need-loop-holds Inv-loop μ-loop
 loop-holds c =
-    let s = c .before .before .before .before .args in
+    let s = c .before .before .before .before .before .args in
     rw (begun c)
     (going-start (costAt (s .plane .now) (s .s) (s .src .now)) (s .limit) (s .center)
-    (cost-most (planeOf (s .plane .now) (s .s)) (s .s .column) (s .s .row) (s .src .now) (gridded (s .center)) (λ i. omega (arith, c .before .before .shared-slice-known2 .given i))))
+    (cost-most (planeOf (s .plane .now) (s .s)) (s .s .column) (s .s .row) (s .src .now) (gridded (s .center)) (λ i. omega (arith, c .before .before .before .shared-slice-known2 .given i))))
 
 round-requires : tie.Need-round-requires Inv-loop μ-loop
 round-requires c κs =
     let g = c .before .before .loop .inv in
-    (c .before .before .before .before .before .before .before .pre, (g .good, (omega (arith, g .fall, g .more), omega (arith, g .fall))))
+    (c .before .before .before .before .before .before .before .before .pre, (g .good, (omega (arith, g .fall, g .more), omega (arith, g .fall))))
 
 returns : tie.Need-returns Inv-loop μ-loop
 unfolding diamond
@@ -80,6 +83,7 @@ small-diamond-spec =
     μ-loop
     to-grid-requires
     uncut-whole-sad-requires
+    started-requires
     loop-holds
     round-requires
     returns

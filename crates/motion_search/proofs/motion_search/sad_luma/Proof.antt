@@ -1,10 +1,8 @@
 -- `sad_luma` meets its contract. Assumes nothing.
 use mathlib.Core.Path.{ap, _∙_}
-use native.Mathlib.Omega.{arith}
 use borrow.Author.Needs.{needs}
 use Rattle.laws.specs.Outcome.{accepted}
 use Rattle.search.specs.Internal.{costAt}
-use Rattle.search.proofs.Ceilings.{cost-whole}
 use Rattle.search.proofs.Checks.{still-refused, linesOf, ready, counts}
 use Rattle.motion_search.proofs.motion_search.sad_luma.Statement.{statement}
 use Rattle.motion_search.proofs.motion_search.sad_luma.Tie as tie
@@ -15,8 +13,8 @@ checked-requires c κs = search needs
 enum-told : tie.Need-enum-told
 enum-told c = search needs
 
-any-sad-requires : tie.Need-any-sad-requires
-any-sad-requires c κs =
+uncut-sad-requires : tie.Need-uncut-sad-requires
+uncut-sad-requires c κs =
     let s = c .before .before .before .before .before in
     let a = s .args in
     ready (a .n) (a .plane .now) (a .s) (a .mv) (c .before .before .checked .result) _ (c .before .before .checked .ensures)
@@ -25,7 +23,7 @@ any-sad-requires c κs =
 returns : tie.Need-returns
 returns c =
     let a = c .before .before .before .before .before .before .args in
-    ap accepted (cost-whole (a .plane .now) (a .s) (a .src .now) (a .mv) 65281 _ (λ i. omega (arith, c .before .before .before .before .shared-slice-known2 .given i)) (omega arith) (c .any-sad .ensures))
+    ap accepted (c .uncut-sad .ensures)
     ∙ counts (a .n) (a .plane .now) (a .s) (a .mv) (c .before .before .before .checked .result) _ (c .before .before .before .checked .ensures)
     (c .before .enum-told .given .1) (costAt (a .plane .now) (a .s) (a .src .now) (a .mv))
 
@@ -36,4 +34,4 @@ returns-2 c =
     (c .match .keys2) (c .before .checked .ensures)
 
 pub sad-luma-spec : {M : Type 1} → statement M
-sad-luma-spec = tie.close (tie.spec checked-requires enum-told any-sad-requires returns returns-2)
+sad-luma-spec = tie.close (tie.spec checked-requires enum-told uncut-sad-requires returns returns-2)

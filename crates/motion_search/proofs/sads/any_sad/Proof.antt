@@ -1,11 +1,13 @@
 -- `any_sad` meets its contract. Assumes nothing.
 use mathlib.Core.Path.{sym, ap, _∙_}
+use native.Mathlib.Omega.{arith}
 use borrow.Author.Needs.{needs}
 use mir.Syntax.{w16}
 use mir.Val.{SFits}
 use mir.Facts.{toZ-ofZ}
 use Rattle.prediction.specs.declared.motion_vector.Mv.{Mv}
-use Rattle.prediction.specs.Vector.{fractionOf}
+use Rattle.prediction.specs.Vector.{storedMv, fractionOf}
+use Rattle.search.proofs.SadLaws.{copied-is}
 use Rattle.motion_search.proofs.sads.any_sad.Statement.{statement}
 use Rattle.motion_search.proofs.sads.any_sad.Tie as tie
 
@@ -18,29 +20,30 @@ fraction-requires c κs = search needs
 fraction-requires-2 : tie.Need-fraction-requires-2
 fraction-requires-2 c κs = search needs
 
-whole-sad-requires : tie.Need-whole-sad-requires
-whole-sad-requires c κs =
-    let x = c .before .before .before .before in
-    let e = x .before .before in
-    let a = x .before .struct-told .given in
-    let b = c .before .before .struct-told2 .given in
-    let fc : SFits w16 (e .stored-luma-mv .result .col) = search needs in
-    let fr : SFits w16 (e .stored-luma-mv .result .row) = search needs in (
-      e .before .before .before .pre,
-      record {
-        row = ap (λ (v : Mv). fractionOf (v .row)) (sym (e .stored-luma-mv .ensures)) ∙ ap fractionOf (sym (toZ-ofZ fr)) ∙ sym (c .before .fraction2 .ensures) ∙ c .if2 .taken;
-        col = ap (λ (v : Mv). fractionOf (v .col)) (sym (e .stored-luma-mv .ensures)) ∙ ap fractionOf (sym (toZ-ofZ fc)) ∙ sym (x .fraction .ensures) ∙ c .before .before .before .if1 .taken;
-      },
-    )
+fetched-sad-requires : tie.Need-fetched-sad-requires
+fetched-sad-requires c κs = search needs
 
+-- without fractions the block is copied
 returns : tie.Need-returns
-returns c = search needs
+returns c =
+    let f = c .before .before .before .before .before in
+    let e = f .before .before in
+    let s = e .before .before .before in
+    let a = f .before .struct-told .given in
+    let b = c .before .before .before .struct-told2 .given in
+    let fc : SFits w16 (e .stored-luma-mv .result .col) = search needs in
+    let fr : SFits w16 (e .stored-luma-mv .result .row) = search needs in
+    rw (copied-is (s .args .plane .now) (s .args .s) (storedMv (s .args .mv))
+    (ap (λ (v : Mv). fractionOf (v .row)) (sym (e .stored-luma-mv .ensures)) ∙ ap fractionOf (sym (toZ-ofZ fr)) ∙ sym (c .before .before .fraction2 .ensures) ∙ c .before .if2 .taken)
+    (ap (λ (v : Mv). fractionOf (v .col)) (sym (e .stored-luma-mv .ensures)) ∙ ap fractionOf (sym (toZ-ofZ fc)) ∙ sym (f .fraction .ensures) ∙ c .before .before .before .before .if1 .taken)
+    (λ k. omega (arith, e .before .before .shared-slice-known .given k)))
+    at (rw (e .stored-luma-mv .ensures) at (c .fetched-sad .ensures))
 
-predicted-sad-requires : tie.Need-predicted-sad-requires
-predicted-sad-requires c κs = search needs
+filtered-sad-requires : tie.Need-filtered-sad-requires
+filtered-sad-requires c κs = search needs
 
 returns-2 : tie.Need-returns-2
-returns-2 c = search needs
+returns-2 c = rw (c .before .before .before .before .stored-luma-mv .ensures) at (c .filtered-sad .ensures)
 
 pub any-sad-spec : {M : Type 1} → statement M
 any-sad-spec =
@@ -49,7 +52,7 @@ any-sad-spec =
     stored-luma-mv-requires
     fraction-requires
     fraction-requires-2
-    whole-sad-requires
+    fetched-sad-requires
     returns
-    predicted-sad-requires
+    filtered-sad-requires
     returns-2)

@@ -1,16 +1,15 @@
 -- `uncut_whole_sad` meets its contract. Assumes nothing.
-use mathlib.Core.Path.{sym, ap, _∙_}
+use mathlib.Core.Path.{_≡_, sym, ap, _∙_}
 use native.Mathlib.Omega.{arith}
 use borrow.Author.Needs.{needs}
 use Rattle.laws.proofs.Sums.{sum-same}
 use Rattle.prediction.specs.declared.motion_vector.Mv.{Mv}
 use Rattle.prediction.specs.Vector.{storedMv}
 use Rattle.search.specs.Sad.{sad16, costOf}
-use Rattle.search.specs.Internal.{copiedAt}
+use Rattle.search.specs.Internal.{costAt, copiedAt}
 use Rattle.search.proofs.Accepted.{placed}
 use Rattle.search.proofs.Rows.{sad-rows}
 use Rattle.search.proofs.SadLaws.{copied-is}
-use Rattle.search.proofs.Ceilings.{cost-whole}
 use Rattle.motion_search.proofs.sads.uncut_whole_sad.Statement.{statement}
 use Rattle.motion_search.proofs.sads.uncut_whole_sad.Tie as tie
 
@@ -28,25 +27,29 @@ all-rows-sad-requires c κs =
     let i = c .before in
     (i .before .before .before .before .pre .0 .source, i .inside-at .ensures (c .if1 .taken) .ends)
 
-returns : tie.Need-returns
+-- the copied block's SAD is the cost
+copied : (e : tie.After-stored-luma-mv)
+    → sad16 (e .before .before .before .args .src .now) (copiedAt (e .before .before .before .args .plane .now) (e .before .before .before .args .s) (e .stored-luma-mv .result))
+    ≡ costAt (e .before .before .before .args .plane .now) (e .before .before .before .args .s) (e .before .before .before .args .src .now) (e .before .before .before .args .mv)
 unfolding costOf
-returns c =
-    let i = c .before .before in
-    let e = i .before in
+copied e =
     let s = e .before .before .before in
-    c .all-rows-sad .ensures .0
-    ∙ sum-same _ _ 16 (i .inside-at .ensures (c .before .if1 .taken) .row (s .args .src .now))
-    ∙ sym (sad-rows (s .args .src .now) _)
-    ∙ ap (λ (v : Mv). sad16 (s .args .src .now) (copiedAt (s .args .plane .now) (s .args .s) v)) (e .stored-luma-mv .ensures)
+    ap (λ (v : Mv). sad16 (s .args .src .now) (copiedAt (s .args .plane .now) (s .args .s) v)) (e .stored-luma-mv .ensures)
     ∙ ap (sad16 (s .args .src .now)) (copied-is (s .args .plane .now) (s .args .s) (storedMv (s .args .mv)) (s .pre .1 .row) (s .pre .1 .col) (λ k. omega (arith, e .before .before .shared-slice-known .given k)))
 
-far-sad-requires : tie.Need-far-sad-requires
-far-sad-requires c κs = search needs
+returns : tie.Need-returns
+returns c =
+    let i = c .before .before in
+    c .all-rows-sad .ensures .0
+    ∙ sum-same _ _ 16 (i .inside-at .ensures (c .before .if1 .taken) .row (i .before .before .before .before .args .src .now))
+    ∙ sym (sad-rows (i .before .before .before .before .args .src .now) _)
+    ∙ copied (i .before)
+
+uncut-fetched-sad-requires : tie.Need-uncut-fetched-sad-requires
+uncut-fetched-sad-requires c κs = search needs
 
 returns-2 : tie.Need-returns-2
-returns-2 c =
-    let src = c .before .before .before .before .shared-slice-known2 .given in
-    cost-whole _ _ _ _ 65281 _ (λ i. omega (arith, src i)) (omega arith) (c .far-sad .ensures)
+returns-2 c = c .uncut-fetched-sad .ensures ∙ copied (c .before .before .before)
 
 pub uncut-whole-sad-spec : {M : Type 1} → statement M
 uncut-whole-sad-spec =
@@ -57,5 +60,5 @@ uncut-whole-sad-spec =
     sub-all-rows-sad
     all-rows-sad-requires
     returns
-    far-sad-requires
+    uncut-fetched-sad-requires
     returns-2)

@@ -36,8 +36,8 @@ returns c =
     (rw (copied-is (s .args .plane .now) (s .args .s) (storedMv (s .args .mv)) (s .pre .1 .row) (s .pre .1 .col) (λ k. omega (arith, e .before .before .shared-slice-known .given k)))
     at (rw (e .stored-luma-mv .ensures) at (same-rows _ _ 16 _ _ (i .inside-at .ensures (m .before .if1 .taken) .row (s .args .src .now)) (m .rows-up-to .ensures .0))))
 
-predicted-sad-requires : tie.Need-predicted-sad-requires
-predicted-sad-requires c κs = search needs
+any-sad-requires : tie.Need-any-sad-requires
+any-sad-requires c κs = search needs
 
 returns-2 : tie.Need-returns-2
 returns-2 c = search needs
@@ -52,5 +52,5 @@ whole-sad-spec =
     rows-up-to-requires
     parted-requires
     returns
-    predicted-sad-requires
+    any-sad-requires
     returns-2)

@@ -1,0 +1,59 @@
+-- `uncut_sad` meets its contract. Assumes nothing.
+use mathlib.Core.Path.{sym, ap, _∙_}
+use native.Mathlib.Omega.{arith}
+use borrow.Author.Needs.{needs}
+use mir.Syntax.{w16}
+use mir.Val.{SFits}
+use mir.Facts.{toZ-ofZ}
+use Rattle.prediction.specs.declared.motion_vector.Mv.{Mv}
+use Rattle.prediction.specs.Vector.{fractionOf}
+use Rattle.search.proofs.Ceilings.{cost-whole}
+use Rattle.motion_search.proofs.sads.uncut_sad.Statement.{statement}
+use Rattle.motion_search.proofs.sads.uncut_sad.Tie as tie
+
+stored-luma-mv-requires : tie.Need-stored-luma-mv-requires
+stored-luma-mv-requires c κs = search needs
+
+fraction-requires : tie.Need-fraction-requires
+fraction-requires c κs = search needs
+
+fraction-requires-2 : tie.Need-fraction-requires-2
+fraction-requires-2 c κs = search needs
+
+uncut-whole-sad-requires : tie.Need-uncut-whole-sad-requires
+uncut-whole-sad-requires c κs =
+    let x = c .before .before .before .before in
+    let e = x .before .before in
+    let a = x .before .struct-told .given in
+    let b = c .before .before .struct-told2 .given in
+    let fc : SFits w16 (e .stored-luma-mv .result .col) = search needs in
+    let fr : SFits w16 (e .stored-luma-mv .result .row) = search needs in (
+      e .before .before .before .pre,
+      record {
+        row = ap (λ (v : Mv). fractionOf (v .row)) (sym (e .stored-luma-mv .ensures)) ∙ ap fractionOf (sym (toZ-ofZ fr)) ∙ sym (c .before .fraction2 .ensures) ∙ c .if2 .taken;
+        col = ap (λ (v : Mv). fractionOf (v .col)) (sym (e .stored-luma-mv .ensures)) ∙ ap fractionOf (sym (toZ-ofZ fc)) ∙ sym (x .fraction .ensures) ∙ c .before .before .before .if1 .taken;
+      },
+    )
+
+returns : tie.Need-returns
+returns c = search needs
+
+any-sad-requires : tie.Need-any-sad-requires
+any-sad-requires c κs = search needs
+
+returns-2 : tie.Need-returns-2
+returns-2 c =
+    let src = c .before .before .before .before .before .shared-slice-known2 .given in
+    cost-whole _ _ _ _ 65281 _ (λ i. omega (arith, src i)) (omega arith) (c .any-sad .ensures)
+
+pub uncut-sad-spec : {M : Type 1} → statement M
+uncut-sad-spec =
+    tie.close
+    (tie.spec
+    stored-luma-mv-requires
+    fraction-requires
+    fraction-requires-2
+    uncut-whole-sad-requires
+    returns
+    any-sad-requires
+    returns-2)
