@@ -15,7 +15,7 @@ ghost use Rattle.prediction.specs.Samples.{distance};
 ghost use Rattle.prediction.specs.Plane.{sampleAt, nearestIn};
 ghost use Rattle.prediction.specs.Ceiled.{CeiledIs};
 ghost use Rattle.prediction.specs.Internal.{rowApart};
-ghost use Rattle.denoiser.specs.Search.{displacedBy};
+ghost use Rattle.denoiser.specs.Search.{displacedBy, still};
 ghost use Rattle.denoiser.specs.Internal.{Fits, Short, Span, Runs, Lies, planeIn, packedPlane, rowDistance, lumaRow};
 
 // The coordinate nearest to x + d among 0 .. n - 1.
@@ -82,13 +82,27 @@ fn runs_inside(x: usize, n: usize, d: i32, columns: usize) -> bool
     (first as usize) + n <= columns
 }
 
-// The first n samples from a place on.
+// The first n samples from a place on. A loop of sixteen or eight is a plain copy to the compiler; one of n is a call.
 fn inner_row(bytes: &[u8], at: usize, n: usize) -> [u8; 16]
     requires { ⌜ (n ≤ 16) × (at + n ≤ length (now bytes)) ⌝ }
     ensures { λ r. ⌜ ((k : ℕ) → k < n → getD r k 0 ≡ getD (now (bytes .entry)) (at + k) 0) ⌝ }
 {
     let mut row = [0u8; 16];
     let mut k = 0;
+    if n == 16 {
+        while k < 16 {
+            row[k] = bytes[at + k];
+            k += 1;
+        }
+        return row;
+    }
+    if n == 8 {
+        while k < 8 {
+            row[k] = bytes[at + k];
+            k += 1;
+        }
+        return row;
+    }
     while k < n {
         row[k] = bytes[at + k];
         k += 1;
@@ -236,8 +250,7 @@ fn row_at(a: &[u8], at: usize, stride: usize, b: &[u8], from: usize, across: usi
     sad16(&a[i..i + 16], &b[j..j + 16])
 }
 
-// The SAD of two blocks of 16 by 16 up to a ceiling: each row, once measured, is held against what is left of it. Two
-// rows a turn.
+// The SAD of two blocks of 16 by 16 up to a ceiling: each row, once measured, is held against what is left of it.
 fn inner_sad(
     a: &[u8],
     at: usize,
@@ -253,23 +266,15 @@ fn inner_sad(
     let mut left = ceiling;
     let mut r: usize = 0;
     while r < 16 {
-        let one = row_at(a, at, stride, b, from, across, r);
-        if left <= one {
+        let row = row_at(a, at, stride, b, from, across, r);
+        r += 1;
+        if left <= row {
             return Ceiled {
                 sad: ceiling,
-                rows: r as u32 + 1,
+                rows: r as u32,
             };
         }
-        let rest = left - one;
-        let two = row_at(a, at, stride, b, from, across, r + 1);
-        if rest <= two {
-            return Ceiled {
-                sad: ceiling,
-                rows: r as u32 + 2,
-            };
-        }
-        left = rest - two;
-        r += 2;
+        left -= row;
     }
     Ceiled {
         sad: ceiling - left,
@@ -305,7 +310,7 @@ fn placed_sad(
     )
 }
 
-// The SAD of a block of 16 by 16 up to a ceiling: in bounds, two rows a turn; else row by row, each sample cut to the plane.
+// The SAD of a block of 16 by 16 up to a ceiling: in bounds, from the rows of the plane; else each sample cut to the plane.
 fn square_sad(
     bytes: &[u8],
     p: PlaneNumbers,
@@ -362,4 +367,37 @@ pub(crate) fn block_sad(
         }
     }
     edge_sad(bytes, p, b, d, centre, ceiling)
+}
+
+// The SAD of a block and the block at the same place in another frame, up to a ceiling: it lies inside. A function of its own, so that
+// `block_sad` has one caller and the compiler makes one of the two.
+pub(crate) fn still_sad(
+    bytes: &[u8],
+    p: PlaneNumbers,
+    b: Block,
+    centre: &[u8],
+    ceiling: u32,
+) -> Ceiled
+    requires { ⌜ Fits (now bytes) p ⌝ }
+    requires { ⌜ Lies b (p .columns) (p .rows) ⌝ }
+    requires { ⌜ p .columns * p .rows ≤ length (now centre) ⌝ }
+    ensures { λ r. ⌜ CeiledIs (lumaRow (now (centre .entry)) (now (bytes .entry)) p b still) (b .rows) ceiling r ⌝ }
+{
+    if b.columns == 16 {
+        if b.rows == 16 {
+            return placed_sad(
+                bytes,
+                p.start,
+                p.stride,
+                b.x,
+                b.y,
+                centre,
+                p.columns,
+                b.x,
+                b.y,
+                ceiling,
+            );
+        }
+    }
+    edge_sad(bytes, p, b, Displacement { dx: 0, dy: 0 }, centre, ceiling)
 }

@@ -90,7 +90,7 @@ pub(crate) fn block_search(bytes: &[u8], p: PlaneNumbers, b: Block, centre: &[u8
         (blockSearch (lumaCost (now (centre .entry)) (now (bytes .entry)) p b)) r ⌝ }
 {
     let none = Displacement { dx: 0, dy: 0 };
-    let first = sad::block_sad(bytes, p, b, none, centre, NO_CEILING);
+    let first = sad::still_sad(bytes, p, b, centre, NO_CEILING);
     let m0 = Motion {
         displacement: none,
         sad: first.sad,

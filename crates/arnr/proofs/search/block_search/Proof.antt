@@ -27,15 +27,15 @@ second c = rw (c .round2 .ensures .displacement) (step-best-reach _ 4 8 _ (first
 third : (c : tie.After-round3) → Reach 14 (c .round3 .result .displacement)
 third c = rw (c .round3 .ensures .displacement) (step-best-reach _ 2 12 _ (second (c .before)))
 
-block-sad-requires : tie.Need-block-sad-requires
-block-sad-requires c κs = search needs
+still-sad-requires : tie.Need-still-sad-requires
+still-sad-requires c κs = search needs
 
 round-requires : tie.Need-round-requires
 round-requires c κs =
     let s = c .before .before .before in
     let bytes = c .before .before .shared-slice-known .given in
     let centre = c .before .shared-slice-known2 .given in
-    let e = luma-whole _ _ _ _ _ 65281 _ (c .block-sad .ensures) (s .pre .1 .0) (λ k. omega (arith, centre k)) (λ k. omega (arith, bytes k)) (omega arith) in
+    let e = luma-whole _ _ _ _ _ 65281 _ (c .still-sad .ensures) (s .pre .1 .0) (λ k. omega (arith, centre k)) (λ k. omega (arith, bytes k)) (omega arith) in
     (s .pre .0, (s .pre .1 .0, ((omega arith, search needs), (s .pre .1 .1, e))))
 
 round-requires-2 : tie.Need-round-requires-2
@@ -68,7 +68,7 @@ pub block-search-spec : {M : Type 1} → statement M
 block-search-spec =
     tie.close
     (tie.spec
-    block-sad-requires
+    still-sad-requires
     round-requires
     round-requires-2
     round-requires-3
