@@ -77,23 +77,6 @@ fn checked(plane: &[u8], s: Site, mv: Mv, n: u32) -> SadAnswer
     SadAnswer::Sad(0)
 }
 
-// The SAD of a macroblock at a vector on the grid of n.
-fn sad_luma(plane: &[u8], s: Site, src: &[u8], mv: Mv, n: u32) -> SadAnswer
-    requires { ⌜ (length (now src) ≡ 256) × (0 < n) ⌝ }
-    ensures { λ r.
-        ⌜ sadOutcome r
-        ≡ firstOf (gridLines n (planeOf (now (plane .entry)) s) (s .column) (s .row) mv)
-        (costAt (now (plane .entry)) s (now (src .entry)) mv)
-        ⌝ }
-{
-    let first = checked(plane, s, mv, n);
-    if let SadAnswer::Sad(_) = first {
-        SadAnswer::Sad(uncut_sad(plane, s, src, mv))
-    } else {
-        first
-    }
-}
-
 // The SAD of a macroblock at a whole vector.
 pub fn mb_luma_sad_at_whole_mv(
     plane: &[u8],
@@ -150,7 +133,12 @@ pub fn mb_luma_sad_at_mv(
         column: mb_col,
         row: mb_row,
     };
-    sad_luma(plane, s, src_y, mv, 1)
+    let first = checked(plane, s, mv, 1);
+    if let SadAnswer::Sad(_) = first {
+        SadAnswer::Sad(uncut_sad(plane, s, src_y, mv))
+    } else {
+        first
+    }
 }
 
 // The small diamond around any centre.
@@ -190,7 +178,7 @@ pub fn small_diamond_search_luma(
     DiamondAnswer::Found(small_diamond(plane, s, src_y, center, max_iters))
 }
 
-// A refinement by a step of a centre on the grid of twice the step: refused where the centre's SAD is.
+// A refinement by a step of a centre on the grid of twice the step.
 fn refine_luma(plane: &[u8], s: Site, src: &[u8], center: Mv, step: u32) -> SearchAnswer
     requires { ⌜ (length (now src) ≡ 256) × (0 < step) × (step ≤ 2) ⌝ }
     ensures { λ r.
@@ -199,19 +187,14 @@ fn refine_luma(plane: &[u8], s: Site, src: &[u8], center: Mv, step: u32) -> Sear
         (refine (costAt (now (plane .entry)) s (now (src .entry))) step center)
         ⌝ }
 {
-    let first = sad_luma(plane, s, src, center, 2 * step);
+    let first = checked(plane, s, center, 2 * step);
     match first {
-        SadAnswer::Sad(sad) => {
-            SearchAnswer::Found(refine_at(
-                plane,
-                s,
-                src,
-                SearchResult {
-                    mv: center,
-                    sad: sad,
-                },
-                step,
-            ))
+        SadAnswer::Sad(_) => {
+            let start = SearchResult {
+                mv: center,
+                sad: uncut_sad(plane, s, src, center),
+            };
+            SearchAnswer::Found(refine_at(plane, s, src, start, step))
         }
         SadAnswer::BadSize => SearchAnswer::BadSize,
         SadAnswer::ShortPlane => SearchAnswer::ShortPlane,

@@ -26,13 +26,17 @@ still-refused ls x sad.BadMacroblock k e = also-refused ls 0 x 10 [] (sym e)
 still-refused ls x sad.OutOfRange k e = also-refused ls 0 x 11 [] (sym e)
 still-refused ls x sad.OffGrid k e = also-refused ls 0 x 12 [] (sym e)
 
+-- a macroblock's site by its numbers
+abbrev pub site : (stride width height column row : ℕ) → Site
+site stride width height column row = record { stride = stride; width = width; height = height; column = column; row = row }
+
 -- where the checks find nothing
 abbrev pub linesOf : ℕ → List ℕ → Site → Mv → List Line
 linesOf n bytes s v = gridLines n (planeOf bytes s) (s .column) (s .row) v
 
 module _ (n : ℕ) (bytes : List ℕ) (s : Site) (v : Mv) (a : SadAnswer) (k : ℕ) (found : sadOutcome a ≡ firstOf (linesOf n bytes s v) 0)
     (none : a ≡ sad.Sad k) where
-  none-applies : Skipped (linesOf n bytes s v)
+  pub none-applies : Skipped (linesOf n bytes s v)
   none-applies = skipped (linesOf n bytes s v) 0 k (sym found ∙ ap sadOutcome none)
 
   pub ready : (src : List ℕ) → length src ≡ 256 → Ready bytes s src

@@ -1,11 +1,9 @@
 -- `mb_luma_sad_at_whole_mv` meets its contract. Assumes nothing.
 use mathlib.Core.Path.{refl, ap, _∙_}
-use Prim.Native.Nat.{ℕ}
 use borrow.Author.Needs.{needs}
 use Rattle.laws.specs.Outcome.{accepted}
-use Rattle.search.specs.declared.Site.{Site}
 use Rattle.search.specs.Internal.{costAt}
-use Rattle.search.proofs.Checks.{still-refused, linesOf, ready, whole-here, counts}
+use Rattle.search.proofs.Checks.{still-refused, site, linesOf, ready, whole-here, counts}
 use Rattle.motion_search.proofs.motion_search.mb_luma_sad_at_whole_mv.Statement.{statement}
 use Rattle.motion_search.proofs.motion_search.mb_luma_sad_at_whole_mv.Tie as tie
 
@@ -17,10 +15,6 @@ checked-requires c κs = search needs
 
 enum-told : tie.Need-enum-told
 enum-told c = search needs
-
--- the site of the macroblock
-abbrev site : (stride width height column row : ℕ) → Site
-site stride width height column row = record { stride = stride; width = width; height = height; column = column; row = row }
 
 uncut-whole-sad-requires : tie.Need-uncut-whole-sad-requires
 uncut-whole-sad-requires c κs =
