@@ -82,7 +82,7 @@ fn runs_inside(x: usize, n: usize, d: i32, columns: usize) -> bool
     (first as usize) + n <= columns
 }
 
-// The first n samples from a place on. A loop of sixteen or eight is a plain copy to the compiler; one of n is a call.
+// The first n samples from a place on. A loop of sixteen or eight becomes a plain copy; one of n, calls to clear and to copy.
 fn inner_row(bytes: &[u8], at: usize, n: usize) -> [u8; 16]
     requires { ⌜ (n ≤ 16) × (at + n ≤ length (now bytes)) ⌝ }
     ensures { λ r. ⌜ ((k : ℕ) → k < n → getD r k 0 ≡ getD (now (bytes .entry)) (at + k) 0) ⌝ }
@@ -310,7 +310,7 @@ fn placed_sad(
     )
 }
 
-// The SAD of a block of 16 by 16 up to a ceiling: in bounds, from the rows of the plane; else each sample cut to the plane.
+// The SAD of a block of 16 by 16 up to a ceiling: in bounds, from the rows of the plane; else row by row, as `edge_sad` does.
 fn square_sad(
     bytes: &[u8],
     p: PlaneNumbers,
@@ -369,8 +369,8 @@ pub(crate) fn block_sad(
     edge_sad(bytes, p, b, d, centre, ceiling)
 }
 
-// The SAD of a block and the block at the same place in another frame, up to a ceiling: it lies inside. A function of its own, so that
-// `block_sad` has one caller and the compiler makes one of the two.
+// The SAD of a block and the block at the same place in another frame, which lies inside, up to a ceiling. A function of its own, so
+// that `block_sad` is called at one place and the compiler inlines it.
 pub(crate) fn still_sad(
     bytes: &[u8],
     p: PlaneNumbers,

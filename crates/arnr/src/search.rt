@@ -6,7 +6,7 @@ use denoiser::Motion;
 use denoiser::PlaneNumbers;
 use prediction::ceiling::NO_CEILING;
 ghost use mathlib.Core.Path.{_≡_};
-ghost use Prim.Native.Nat.{_+_, _-_, _*_, _<_, _≤_};
+ghost use Prim.Native.Nat.{_-_, _*_, _<_, _≤_};
 ghost use lib.ListN.{length};
 ghost use Rattle.laws.specs.Signed.{above, below};
 ghost use Rattle.laws.specs.Best.{betterOf};

@@ -12,7 +12,7 @@ ghost use mathlib.Core.Path.{_≡_};
 ghost use Prim.Native.Nat.{_≤_, _<_};
 ghost use Rattle.laws.specs.Signed.{above, below};
 ghost use Rattle.search.specs.Search.{tried, roundOf, diamond};
-ghost use Rattle.search.specs.Internal.{costAt, rowStep, colStep, Ready, Whole, Good};
+ghost use Rattle.search.specs.Internal.{costAt, stepAt, Ready, Whole, Good};
 
 // One neighbour of the best so far, measured up to the best SAD.
 fn try_at(
@@ -51,27 +51,18 @@ fn try_at(
     }
 }
 
-// How far down neighbour k of a round lies, in quarter pixels: the neighbours come as up, down, left, right.
-fn row_step(k: u32) -> i16
-    ensures { λ r. ⌜ r ≡ rowStep k ⌝ }
+// How far neighbour k of a round lies along one axis, in quarter pixels: `first` is a step back, the next a step on, the others none.
+fn step_at(first: u32, k: u32) -> i16
+    requires { ⌜ first ≤ 2 ⌝ }
+    ensures { λ r. ⌜ r ≡ stepAt first k ⌝ }
 {
-    if k == 0 {
+    if k == first {
         return -WHOLE_PIXEL_STEP;
     }
-    if k == 1 { WHOLE_PIXEL_STEP } else { 0 }
+    if k == first + 1 { WHOLE_PIXEL_STEP } else { 0 }
 }
 
-// And how far to the right.
-fn col_step(k: u32) -> i16
-    ensures { λ r. ⌜ r ≡ colStep k ⌝ }
-{
-    if k == 2 {
-        return -WHOLE_PIXEL_STEP;
-    }
-    if k == 3 { WHOLE_PIXEL_STEP } else { 0 }
-}
-
-// One round: its four neighbours. In a loop, so that `try_at` has one caller and the compiler makes one of the two.
+// One round: k counts up, down, left, right. In a loop, so that `try_at` is called at one place and the compiler inlines it.
 fn round(plane: &[u8], s: Site, src: &[u8], best: DiamondResult) -> DiamondResult
     requires { ⌜ Ready (now plane) s (now src) ⌝ }
     requires { ⌜ Good (costAt (now plane) s (now src)) best ⌝ }
@@ -81,7 +72,7 @@ fn round(plane: &[u8], s: Site, src: &[u8], best: DiamondResult) -> DiamondResul
     let mut next = best;
     let mut k: u32 = 0;
     while k < 4 {
-        next = try_at(plane, s, src, next, row_step(k), col_step(k));
+        next = try_at(plane, s, src, next, step_at(0, k), step_at(2, k));
         k += 1;
     }
     let mv = next.mv;

@@ -5,8 +5,8 @@ use crate::refusals::bad_macroblock;
 use crate::refusals::off_grid;
 use crate::refusals::out_of_range;
 use crate::sads::block_sad;
+use crate::sads::uncut_any_sad;
 use crate::sads::uncut_block_sad;
-use crate::sads::uncut_sad;
 use crate::sads::uncut_whole_sad;
 use fetch::bad_size;
 use fetch::short_plane;
@@ -40,7 +40,7 @@ pub const HALF_PIXEL_STEP: i16 = 2;
 
 pub const QUARTER_PIXEL_STEP: i16 = 1;
 
-// The SAD of two blocks of 16 by 16 samples up to a ceiling: the lesser of the two, and the number of rows measured.
+// The SAD of two blocks of 16 by 16 samples up to a ceiling: the lesser of SAD and ceiling, and the number of rows measured.
 pub fn block_sad_16x16_up_to(src: &[u8; 256], pred: &[u8; 256], ceiling: u32) -> Ceiled
     ensures { λ r. ⌜ CeiledIs (rowSad (now (src .entry)) (now (pred .entry))) 16 ceiling r ⌝ }
 {
@@ -135,7 +135,7 @@ pub fn mb_luma_sad_at_mv(
     };
     let first = checked(plane, s, mv, 1);
     if let SadAnswer::Sad(_) = first {
-        SadAnswer::Sad(uncut_sad(plane, s, src_y, mv))
+        SadAnswer::Sad(uncut_any_sad(plane, s, src_y, mv))
     } else {
         first
     }
@@ -178,7 +178,7 @@ pub fn small_diamond_search_luma(
     DiamondAnswer::Found(small_diamond(plane, s, src_y, center, max_iters))
 }
 
-// A refinement by a step of a centre on the grid of twice the step.
+// Refines by a step a centre on the grid of twice the step; refuses as `checked` does.
 fn refine_luma(plane: &[u8], s: Site, src: &[u8], center: Mv, step: u32) -> SearchAnswer
     requires { ⌜ (length (now src) ≡ 256) × (0 < step) × (step ≤ 2) ⌝ }
     ensures { λ r.
@@ -192,7 +192,7 @@ fn refine_luma(plane: &[u8], s: Site, src: &[u8], center: Mv, step: u32) -> Sear
         SadAnswer::Sad(_) => {
             let start = SearchResult {
                 mv: center,
-                sad: uncut_sad(plane, s, src, center),
+                sad: uncut_any_sad(plane, s, src, center),
             };
             SearchAnswer::Found(refine_at(plane, s, src, start, step))
         }

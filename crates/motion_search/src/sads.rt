@@ -68,7 +68,7 @@ fn row_sad(a: &[u8], b: &[u8]) -> u32
     sum
 }
 
-// The rows of `all_rows_sad` up to a ceiling: each row, once measured, is held against what is left of it. Four rows a turn. The number
+// The rows of `all_rows_sad` up to a ceiling: each row, once measured, is held against what is left of it. Four rows a turn. Gives the number
 // of rows measured, plus 32 times what is left of the ceiling where it was not reached: one number, which comes back in a register.
 fn rows_up_to(src: &[u8], plane: &[u8], at: usize, stride: usize, ceiling: u32) -> u64
     requires { ⌜ (length (now src) ≡ 256) × (at + 15 * stride + 16 ≤ length (now plane)) ⌝ }
@@ -137,17 +137,18 @@ pub(crate) fn uncut_block_sad(src: &[u8], pred: &[u8]) -> u32
     all_rows_sad(src, pred, 0, 16)
 }
 
-// The block that is copied at a vector in eighths, whose fractions are not read, into a lent array.
+// Fills a lent array with the block that is copied at a vector in eighths, whose fractions are not read.
 fn fill_copied(plane: &[u8], s: Site, eighths: Mv, block: &mut [u8; 256])
     requires { ⌜ Ready (now plane) s (now block) ⌝ }
     ensures { λ _. ⌜ now (block .exit) ≡ copiedAt (now (plane .entry)) s eighths ⌝ }
+    ensures { λ _. ⌜ length (now (block .exit)) ≡ 256 ⌝ }
 {
     let x = 16 * s.column;
     let y = 16 * s.row;
     fill_luma_mb_whole_pixel(plane, s.stride, s.width, s.height, x, y, eighths, block);
 }
 
-// The SAD of that block up to a ceiling, and not cut short.
+// The SAD of that block up to a ceiling.
 fn fetched_sad(plane: &[u8], s: Site, src: &[u8], eighths: Mv, ceiling: u32) -> Ceiled
     requires { ⌜ Ready (now plane) s (now src) ⌝ }
     ensures { λ r. ⌜ CeiledIs (rowSad (now (src .entry)) (copiedAt (now (plane .entry)) s eighths)) 16 ceiling r ⌝ }
@@ -157,6 +158,7 @@ fn fetched_sad(plane: &[u8], s: Site, src: &[u8], eighths: Mv, ceiling: u32) -> 
     block_sad(src, &block, ceiling)
 }
 
+// The same, not cut short.
 fn uncut_fetched_sad(plane: &[u8], s: Site, src: &[u8], eighths: Mv) -> u32
     requires { ⌜ Ready (now plane) s (now src) ⌝ }
     ensures { λ r. ⌜ r ≡ sad16 (now (src .entry)) (copiedAt (now (plane .entry)) s eighths) ⌝ }
@@ -166,7 +168,7 @@ fn uncut_fetched_sad(plane: &[u8], s: Site, src: &[u8], eighths: Mv) -> u32
     uncut_block_sad(src, &block)
 }
 
-// The SAD at a vector in eighths, by the halo and the six-tap filter.
+// The SAD at a vector in eighths up to a ceiling, by the halo and the six-tap filter.
 fn filtered_sad(plane: &[u8], s: Site, src: &[u8], eighths: Mv, ceiling: u32) -> Ceiled
     requires { ⌜ Ready (now plane) s (now src) ⌝ }
     ensures { λ r. ⌜ CeiledIs (rowSad (now (src .entry)) (predictedFrom (now (plane .entry)) s eighths)) 16 ceiling r ⌝ }
@@ -179,7 +181,7 @@ fn filtered_sad(plane: &[u8], s: Site, src: &[u8], eighths: Mv, ceiling: u32) ->
     block_sad(src, &filtered.block, ceiling)
 }
 
-// The SAD at any vector, by a fetch: without fractions the block is copied, else filtered. It may lie anywhere.
+// The SAD at any vector up to a ceiling, by a fetch: without fractions the block is copied, else filtered. It may lie anywhere.
 pub(crate) fn any_sad(plane: &[u8], s: Site, src: &[u8], mv: Mv, ceiling: u32) -> Ceiled
     requires { ⌜ Ready (now plane) s (now src) ⌝ }
     ensures { λ r. ⌜ CeiledIs (costRow (now (plane .entry)) s (now (src .entry)) mv) 16 ceiling r ⌝ }
@@ -227,8 +229,9 @@ fn inside_at(plane: &[u8], s: Site, eighths: Mv) -> usize
     0
 }
 
-// The SAD at a vector without fractions: rows of the plane where the block lies inside, else by a fetch, whose answer is read field
-// by field: the compiler then keeps both in registers.
+// The SAD at a vector without fractions up to a ceiling: rows of the plane where the block lies inside, else by `any_sad`; by
+// `fetched_sad` alone the diamond is slower (docs/SPEED.md). The answer is read field by field: the compiler then keeps value and rows
+// in registers.
 pub(crate) fn whole_sad(plane: &[u8], s: Site, src: &[u8], mv: Mv, ceiling: u32) -> Ceiled
     requires { ⌜ Ready (now plane) s (now src) ⌝ }
     requires { ⌜ Copied mv ⌝ }
@@ -260,7 +263,7 @@ pub(crate) fn uncut_whole_sad(plane: &[u8], s: Site, src: &[u8], mv: Mv) -> u32
 }
 
 // The SAD at any vector, not cut short.
-pub(crate) fn uncut_sad(plane: &[u8], s: Site, src: &[u8], mv: Mv) -> u32
+pub(crate) fn uncut_any_sad(plane: &[u8], s: Site, src: &[u8], mv: Mv) -> u32
     requires { ⌜ Ready (now plane) s (now src) ⌝ }
     ensures { λ r. ⌜ r ≡ costAt (now (plane .entry)) s (now (src .entry)) mv ⌝ }
 {

@@ -37,7 +37,8 @@ pub sad-most : (src block : List ℕ) → ((i : ℕ) → getD src i 0 < 256) →
 unfolding sad16
 sad-most src block s b = sum-most _ 256 255 (λ i. omega (arith, s i, b i))
 
-long : (at : Samples) → length (macroblockOf at) ≡ 256
+-- a macroblock has 256 samples
+pub long : (at : Samples) → length (macroblockOf at) ≡ 256
 unfolding squareOf
 long at = length-tabulate 256 _
 
@@ -129,10 +130,6 @@ module _ (bytes : List ℕ) (s : Site) (src : List ℕ) (r : Ready bytes s src) 
   pub filled-is : (block held : List ℕ) (answer : FetchAnswer)
       → fetchOutcome answer held ≡ firstOf (fetchLines (planeOf bytes s) (16 * s .column) (16 * s .row)) block → held ≡ block
   filled-is block held answer e = fetched answer held block (simp (r .size, r .long, origin-fine) at e)
-
--- a copied block has 256 samples
-pub copied-long : (bytes : List ℕ) (s : Site) (v : Mv) → length (copiedAt bytes s v) ≡ 256
-copied-long bytes s v = long (offsetBy (16 * s .column) (16 * s .row) v (sampleAt (planeOf bytes s)))
 
 pub filtered-is : (x y : ℤ) (n : ℕ) (a block : List ℕ) → block ≡ blockOf n (firstOf (filterLines (fractionOf x) (fractionOf y)) a) → block ≡ a
 filtered-is x y n a block e = simp (le-ltb 7 (fractionOf x) (small x), le-ltb 7 (fractionOf y) (small y)) at e

@@ -1,7 +1,7 @@
--- The diamond as code makes it: the ways out of one try, and the descent under way, over any cost. Assumes nothing.
+-- The diamond as code makes it: the ways out of one try, a round and the descent under way, over any cost. Assumes nothing.
 use mathlib.Core.Path.{_≡_, refl, ap, _∙_}
 use mathlib.Core.Bool.{Bool, true, false, cond}
-use Prim.Native.Nat.{ℕ, suc, _+_, _-_, _*_, _≤_, _<_, min}
+use Prim.Native.Nat.{ℕ, zero, suc, _+_, _-_, _*_, _≤_, _<_, min}
 use native.Mathlib.Omega.{arith}
 use borrow.Author.Tests.{lt-ltb, le-ltb}
 use lib.Dec.{ltb, eqb}
@@ -10,7 +10,7 @@ use Rattle.laws.specs.Signed.{above, below, minus}
 use Rattle.prediction.specs.declared.motion_vector.Mv.{Mv}
 use Rattle.search.specs.declared.DiamondResult.{DiamondResult}
 use Rattle.search.specs.Search.{gridded, sameMv, stepped, tried, counted, roundOf, descend, startAt}
-use Rattle.search.specs.Internal.{rowStep, colStep, triedBelow, Good}
+use Rattle.search.specs.Internal.{stepAt, Good}
 use Rattle.search.proofs.Descent.{tried-is, round-is, still, moving, start-good}
 
 -- the neighbour n is skipped, is better, or is not
@@ -35,17 +35,19 @@ module _ (cost : Mv → ℕ) (dr dc : ℤ) (b : DiamondResult) (n : Mv) (is : n 
         let t : ltb (cost (stepped dr dc (b .mv))) (b .sad) ≡ false = rw is at (le-ltb (cost n) (b .sad) c) in
         rw (rw is at e, t)
 
--- a neighbour of a round is at most 4 away
-pub step-small : (k : ℕ) → (above (rowStep k) ≤ 4) × (below (rowStep k) ≤ 4) × (above (colStep k) ≤ 4) × (below (colStep k) ≤ 4)
-step-small k =
-    let r = one (eqb k 0) (eqb k 1) in
-    let c = one (eqb k 2) (eqb k 3) in
-    (r .0, r .1, c .0, c .1)
+-- a neighbour of a round is at most 4 away along either axis
+pub step-small : (first k : ℕ) → (above (stepAt first k) ≤ 4) × (below (stepAt first k) ≤ 4)
+step-small first k = go (eqb k first) (eqb k (first + 1))
   where
-    one : (s t : Bool) → (above (cond s (minus 4) (cond t (pos 4) (pos 0))) ≤ 4) × (below (cond s (minus 4) (cond t (pos 4) (pos 0))) ≤ 4)
-    one true t = (omega arith, omega arith)
-    one false true = (omega arith, omega arith)
-    one false false = (omega arith, omega arith)
+    go : (s t : Bool) → (above (cond s (minus 4) (cond t (pos 4) (pos 0))) ≤ 4) × (below (cond s (minus 4) (cond t (pos 4) (pos 0))) ≤ 4)
+    go true t = (omega arith, omega arith)
+    go false true = (omega arith, omega arith)
+    go false false = (omega arith, omega arith)
+
+-- the best after the first k neighbours of a round
+unfoldable pub triedBelow : (Mv → ℕ) → DiamondResult → ℕ → DiamondResult
+triedBelow cost best zero = best
+triedBelow cost best (suc k) = tried cost (stepAt 0 k) (stepAt 2 k) (triedBelow cost best k)
 
 -- a round from b under way: the best after its first k neighbours
 pub record Trying (cost : Mv → ℕ) (b : DiamondResult) (k : ℕ) (n : DiamondResult) : Type 0 where
@@ -59,13 +61,13 @@ module _ (cost : Mv → ℕ) (b : DiamondResult) where
   unfolding triedBelow
   trying-none g = record { is = refl; good = g; more = omega arith; round = refl }
 
-  pub trying-more : (k : ℕ) (n r : DiamondResult) → Trying cost b k n → r ≡ tried cost (rowStep k) (colStep k) n → Trying cost b (k + 1) r
+  pub trying-more : (k : ℕ) (n r : DiamondResult) → Trying cost b k n → r ≡ tried cost (stepAt 0 k) (stepAt 2 k) n → Trying cost b (k + 1) r
   unfolding triedBelow
   trying-more k n r t e =
-      let d = tried-is cost (rowStep k) (colStep k) n (t .good) in
+      let d = tried-is cost (stepAt 0 k) (stepAt 2 k) n (t .good) in
       let next : k + 1 ≡ suc k = omega arith in
       record {
-        is = rw next (e ∙ ap (tried cost (rowStep k) (colStep k)) (t .is));
+        is = rw next (e ∙ ap (tried cost (stepAt 0 k) (stepAt 2 k)) (t .is));
         good = rw e (d .good);
         more = rw e (omega (arith, d .more, t .more));
         round = rw e (d .round ∙ t .round);

@@ -2,7 +2,7 @@
 use mathlib.Core.Path.{_≡_}
 use mathlib.Core.Bool.{false, cond}
 use mathlib.Core.List.{List}
-use Prim.Native.Nat.{ℕ, zero, suc, _+_, _-_, _*_, _%_, _≤_, _<_}
+use Prim.Native.Nat.{ℕ, _+_, _-_, _*_, _%_, _≤_, _<_}
 use lib.Dec.{eqb}
 use lib.IntN.{ℤ, pos, natAbs}
 use lib.ListN.{length, getD}
@@ -19,7 +19,6 @@ use Rattle.search.specs.declared.Site.{Site}
 use Rattle.search.specs.declared.DiamondResult.{DiamondResult}
 use Rattle.search.specs.Refusals.{badMacroblock}
 use Rattle.search.specs.Sad.{rowSad, costOf}
-use Rattle.search.specs.Search.{tried}
 
 -- the reference plane of a site, and the cost of a vector there
 abbrev pub planeOf : List ℕ → Site → Plane
@@ -77,17 +76,9 @@ pub record Whole (v : Mv) : Type 0 where
   pub row : Grid (v .row)
   pub col : Grid (v .col)
 
--- how far down and how far to the right the neighbours of a round lie, in their order: up, down, left, right
-abbrev pub rowStep : ℕ → ℤ
-rowStep k = cond (eqb k 0) (minus 4) (cond (eqb k 1) (pos 4) (pos 0))
-
-abbrev pub colStep : ℕ → ℤ
-colStep k = cond (eqb k 2) (minus 4) (cond (eqb k 3) (pos 4) (pos 0))
-
--- the best after the first k of them
-unfoldable pub triedBelow : (Mv → ℕ) → DiamondResult → ℕ → DiamondResult
-triedBelow cost best zero = best
-triedBelow cost best (suc k) = tried cost (rowStep k) (colStep k) (triedBelow cost best k)
+-- how far neighbour k of a round lies along one axis: down with first 0, to the right with first 2; k counts up, down, left, right
+abbrev pub stepAt : ℕ → ℕ → ℤ
+stepAt first k = cond (eqb k first) (minus 4) (cond (eqb k (first + 1)) (pos 4) (pos 0))
 
 -- a best so far: on the grid, with its own SAD
 pub record Good (cost : Mv → ℕ) (best : DiamondResult) : Type 0 where

@@ -1,11 +1,10 @@
 -- `arnr::search::block_search` meets its contract: each step reaches no further than 15. Assumes nothing.
-use mathlib.Core.Path.{_≡_, ap, _∙_, refl, sym}
+use mathlib.Core.Path.{_≡_, ap, _∙_, sym}
 use Prim.Native.Nat.{ℕ}
-use lib.IntN.{pos}
 use Rattle.denoiser.specs.declared.Displacement.{Displacement}
 use Rattle.denoiser.specs.declared.Motion.{Motion}
 use Rattle.denoiser.specs.Search.{still, blockSearch}
-use Rattle.denoiser.specs.Internal.{stepBest, Reach, Measured, lumaCost}
+use Rattle.denoiser.specs.Internal.{stepBest, Reach, Measured}
 use Rattle.denoiser.proofs.Ceilings.{luma-whole}
 use Rattle.denoiser.proofs.Searches.{step-best-reach, search-steps, wider}
 use native.Mathlib.Omega.{arith}

@@ -8,7 +8,6 @@ use Rattle.denoiser.specs.declared.Motion.{Motion}
 use Rattle.denoiser.specs.Internal.{Measured}
 use Rattle.denoiser.proofs.Ceilings.{luma-read}
 use native.Mathlib.Omega.{arith}
-use borrow.Author.Needs.{needs}
 use Rattle.arnr.proofs.search.try_at.Statement.{statement}
 use Rattle.arnr.proofs.search.try_at.Tie as tie
 

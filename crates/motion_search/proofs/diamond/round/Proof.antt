@@ -6,7 +6,7 @@ use borrow.Author.Needs.{needs}
 use mir.Syntax.{w16}
 use mir.Val.{toZ, ofZ}
 use Rattle.laws.proofs.Signed.{back}
-use Rattle.search.specs.Internal.{costAt, rowStep, colStep}
+use Rattle.search.specs.Internal.{costAt, stepAt}
 use Rattle.search.proofs.Steps.{step-small, Trying, trying-none, trying-more, trying-all}
 use Rattle.motion_search.proofs.diamond.round.Statement.{statement}
 use Rattle.motion_search.proofs.diamond.round.Tie as tie
@@ -20,26 +20,28 @@ abbrev μ-loop : tie.MeasureT-loop
 loop-holds : tie.Need-loop-holds Inv-loop μ-loop
 loop-holds c = (omega arith, trying-none _ _ (c .before .before .pre .1 .0))
 
-row-step-requires : tie.Need-row-step-requires Inv-loop μ-loop
-row-step-requires c κs = search needs
+step-at-requires : tie.Need-step-at-requires Inv-loop μ-loop
+step-at-requires c κs = search needs
 
-col-step-requires : tie.Need-col-step-requires Inv-loop μ-loop
-col-step-requires c κs = search needs
+step-at-requires-2 : tie.Need-step-at-requires-2 Inv-loop μ-loop
+step-at-requires-2 c κs = search needs
 
 -- how far the neighbour lies
-module _ (c : tie.After-col-step Inv-loop μ-loop) where
-  down : toZ w16 (ofZ w16 (c .before .row-step .result)) ≡ rowStep (c .before .before .before .loop .k)
-  down = back w16 (c .before .row-step .result) (c .before .row-step .ok) ∙ c .before .row-step .ensures
+module _ (c : tie.After-step-at2 Inv-loop μ-loop) where
+  down : toZ w16 (ofZ w16 (c .before .step-at .result)) ≡ stepAt 0 (c .before .before .before .loop .k)
+  down = back w16 (c .before .step-at .result) (c .before .step-at .ok) ∙ c .before .step-at .ensures
 
-  right : toZ w16 (ofZ w16 (c .col-step .result)) ≡ colStep (c .before .before .before .loop .k)
-  right = back w16 (c .col-step .result) (c .col-step .ok) ∙ c .col-step .ensures
+  right : toZ w16 (ofZ w16 (c .step-at2 .result)) ≡ stepAt 2 (c .before .before .before .loop .k)
+  right = back w16 (c .step-at2 .result) (c .step-at2 .ok) ∙ c .step-at2 .ensures
 
 try-at-requires : tie.Need-try-at-requires Inv-loop μ-loop
 try-at-requires c κs =
     let l = c .before .before .before .loop in
     let s = c .before .before .before .before .before .before in
     let t = l .inv .1 in
-    (s .pre .0, (t .good .grid, (omega (arith, t .more, l .inv .0, s .pre .1 .1), rw (down c, right c) (step-small (l .k)))))
+    let v = step-small 0 (l .k) in
+    let h = step-small 2 (l .k) in
+    (s .pre .0, (t .good .grid, (omega (arith, t .more, l .inv .0, s .pre .1 .1), rw (down c, right c) (v .0, v .1, h .0, h .1))))
 
 add-k : tie.Need-add-k Inv-loop μ-loop
 add-k c = search needs
@@ -68,8 +70,8 @@ round-spec =
     Inv-loop
     μ-loop
     loop-holds
-    row-step-requires
-    col-step-requires
+    step-at-requires
+    step-at-requires-2
     try-at-requires
     add-k
     loop-less

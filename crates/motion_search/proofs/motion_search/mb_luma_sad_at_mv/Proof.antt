@@ -14,8 +14,8 @@ checked-requires c κs = search needs
 enum-told : tie.Need-enum-told
 enum-told c = search needs
 
-uncut-sad-requires : tie.Need-uncut-sad-requires
-uncut-sad-requires c κs =
+uncut-any-sad-requires : tie.Need-uncut-any-sad-requires
+uncut-any-sad-requires c κs =
     let a = c .before .before .before .before .before .args in
     let e = c .before .before .before .checked in
     let s = site (a .stride) (a .width) (a .height) (a .mb-col) (a .mb-row) in
@@ -26,7 +26,7 @@ returns c =
     let a = c .before .before .before .before .before .before .args in
     let e = c .before .before .before .before .checked in
     let s = site (a .stride) (a .width) (a .height) (a .mb-col) (a .mb-row) in
-    ap accepted (c .uncut-sad .ensures)
+    ap accepted (c .uncut-any-sad .ensures)
     ∙ (rw (grid-one (a .mv)) at (counts 1 (a .plane .now) s (a .mv) (e .result) _ (e .ensures) (c .before .before .enum-told .given .1) (costAt (a .plane .now) s (a .src-y .now) (a .mv))))
 
 returns-2 : tie.Need-returns-2
@@ -37,4 +37,4 @@ returns-2 c =
     (c .match .keys2) (c .before .checked .ensures))
 
 pub mb-luma-sad-at-mv-spec : {M : Type 1} → statement M
-mb-luma-sad-at-mv-spec = tie.close (tie.spec checked-requires enum-told uncut-sad-requires returns returns-2)
+mb-luma-sad-at-mv-spec = tie.close (tie.spec checked-requires enum-told uncut-any-sad-requires returns returns-2)

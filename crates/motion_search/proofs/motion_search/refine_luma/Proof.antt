@@ -20,8 +20,8 @@ checked-requires c κs = search needs
 enum-told : tie.Need-enum-told
 enum-told c = search needs
 
-uncut-sad-requires : tie.Need-uncut-sad-requires
-uncut-sad-requires c κs =
+uncut-any-sad-requires : tie.Need-uncut-any-sad-requires
+uncut-any-sad-requires c κs =
     let s = c .before .before .before .before .before in
     let a = s .args in
     let e = c .before .before .checked in
@@ -33,8 +33,8 @@ refine-at-requires c κs =
     let a = s .args in
     let e = c .before .before .before .checked in
     let k = none-applies (2 * a .step) (a .plane .now) (a .s) (a .center) (e .result) _ (e .ensures) (c .before .enum-told .given .1) in (
-      record { size = k .0; long = k .1 .0; place = k .1 .1 .0; source = s .pre .0 },
-      (c .uncut-sad .ensures, (s .pre .2, step-room (a .center) (a .step) (s .pre .1) (s .pre .2) (k .1 .1 .1 .0) (k .1 .1 .1 .1 .0))),
+      ready (2 * a .step) (a .plane .now) (a .s) (a .center) (e .result) _ (e .ensures) (c .before .enum-told .given .1) (a .src .now) (s .pre .0),
+      (c .uncut-any-sad .ensures, (s .pre .2, step-room (a .center) (a .step) (s .pre .1) (s .pre .2) (k .1 .1 .1 .0) (k .1 .1 .1 .1 .0))),
     )
 
 enum-told-2 : tie.Need-enum-told-2
@@ -97,7 +97,7 @@ refine-luma-spec =
     mul-checked
     checked-requires
     enum-told
-    uncut-sad-requires
+    uncut-any-sad-requires
     refine-at-requires
     enum-told-2
     enum-told-3

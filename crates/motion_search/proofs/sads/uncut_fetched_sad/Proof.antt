@@ -1,8 +1,6 @@
 -- `uncut_fetched_sad` meets its contract. Assumes nothing.
 use borrow.Author.Needs.{needs}
-use mathlib.Core.Path.{_≡_, refl}
-use lib.ListN.{length}
-use Rattle.search.proofs.SadLaws.{copied-long}
+use mathlib.Core.Path.{refl}
 use Rattle.motion_search.proofs.sads.uncut_fetched_sad.Statement.{statement}
 use Rattle.motion_search.proofs.sads.uncut_fetched_sad.Tie as tie
 
@@ -11,20 +9,14 @@ fill-copied-requires c κs =
     let r = c .before .before .before .pre in
     record { size = r .size; long = r .long; place = r .place; source = refl }
 
--- the lent array is the copied block, of 256 samples
-long : (c : tie.After-fill-copied) → length (c .fill-copied .last .1 .1 .1 .0) ≡ 256
-long c =
-    let a = c .before .before .before .before .args in
-    rw (c .fill-copied .ensures) (copied-long (a .plane .now) (a .s) (a .eighths))
-
 slice-aggregate-uncut-block-sad : tie.Need-slice-aggregate-uncut-block-sad
-slice-aggregate-uncut-block-sad c = search (needs, long (c .before))
+slice-aggregate-uncut-block-sad c = search (needs, c .before .fill-copied .ensures .1)
 
 uncut-block-sad-requires : tie.Need-uncut-block-sad-requires
-uncut-block-sad-requires c κs = search (needs, long (c .before))
+uncut-block-sad-requires c κs = search (needs, c .before .fill-copied .ensures .1)
 
 returns : tie.Need-returns
-returns c = rw (c .before .before .fill-copied .ensures) at (c .uncut-block-sad .ensures)
+returns c = rw (c .before .before .fill-copied .ensures .0) at (c .uncut-block-sad .ensures)
 
 pub uncut-fetched-sad-spec : {M : Type 1} → statement M
 uncut-fetched-sad-spec =

@@ -1,4 +1,4 @@
--- `uncut_sad` meets its contract. Assumes nothing.
+-- `uncut_any_sad` meets its contract. Assumes nothing.
 use mathlib.Core.Path.{sym, ap, _∙_}
 use native.Mathlib.Omega.{arith}
 use borrow.Author.Needs.{needs}
@@ -8,8 +8,8 @@ use mir.Facts.{toZ-ofZ}
 use Rattle.prediction.specs.declared.motion_vector.Mv.{Mv}
 use Rattle.prediction.specs.Vector.{fractionOf}
 use Rattle.search.proofs.Ceilings.{cost-whole}
-use Rattle.motion_search.proofs.sads.uncut_sad.Statement.{statement}
-use Rattle.motion_search.proofs.sads.uncut_sad.Tie as tie
+use Rattle.motion_search.proofs.sads.uncut_any_sad.Statement.{statement}
+use Rattle.motion_search.proofs.sads.uncut_any_sad.Tie as tie
 
 stored-luma-mv-requires : tie.Need-stored-luma-mv-requires
 stored-luma-mv-requires c κs = search needs
@@ -46,8 +46,8 @@ returns-2 c =
     let src = c .before .before .before .before .before .shared-slice-known2 .given in
     cost-whole _ _ _ _ 65281 _ (λ i. omega (arith, src i)) (omega arith) (c .any-sad .ensures)
 
-pub uncut-sad-spec : {M : Type 1} → statement M
-uncut-sad-spec =
+pub uncut-any-sad-spec : {M : Type 1} → statement M
+uncut-any-sad-spec =
     tie.close
     (tie.spec
     stored-luma-mv-requires
