@@ -68,8 +68,9 @@ fn row_sad(a: &[u8], b: &[u8]) -> u32
     sum
 }
 
-// The rows of `all_rows_sad` up to a ceiling: each row, once measured, is held against what is left of it. Four rows a turn. Gives the number
-// of rows measured, plus 32 times what is left of the ceiling where it was not reached: one number, which comes back in a register.
+// The rows of `all_rows_sad` up to a ceiling: each row, once measured, is held against what is left of it. Four rows a turn. Gives the
+// number of rows measured, plus 32 times what is left of the ceiling where it was not reached: one number, which comes back in a
+// register.
 fn rows_up_to(src: &[u8], plane: &[u8], at: usize, stride: usize, ceiling: u32) -> u64
     requires { ⌜ (length (now src) ≡ 256) × (at + 15 * stride + 16 ≤ length (now plane)) ⌝ }
     ensures { λ r. ⌜ CeiledIs (rowApart (now (src .entry)) 0 16 (now (plane .entry)) at stride) 16 ceiling (parts ceiling r) × (r / 32 ≤ ceiling) ⌝ }
