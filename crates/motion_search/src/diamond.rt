@@ -51,7 +51,8 @@ fn try_at(
     }
 }
 
-// How far neighbour k of a round lies along one axis, in quarter pixels: `first` is a step back, the next a step on, the others none.
+// How far neighbour k of a round lies along one axis, in quarter pixels: neighbour `first` a step back, the one after it a step on, the
+// others not at all.
 fn step_at(first: u32, k: u32) -> i16
     requires { ⌜ first ≤ 2 ⌝ }
     ensures { λ r. ⌜ r ≡ stepAt first k ⌝ }
@@ -62,7 +63,7 @@ fn step_at(first: u32, k: u32) -> i16
     if k == first + 1 { WHOLE_PIXEL_STEP } else { 0 }
 }
 
-// One round: k counts up, down, left, right. In a loop, so that `try_at` is called at one place and the compiler inlines it.
+// One round: the neighbours 0 to 3 are up, down, left, right. In a loop, so that `try_at` is called at one place and the compiler inlines it.
 fn round(plane: &[u8], s: Site, src: &[u8], best: DiamondResult) -> DiamondResult
     requires { ⌜ Ready (now plane) s (now src) ⌝ }
     requires { ⌜ Good (costAt (now plane) s (now src)) best ⌝ }

@@ -76,7 +76,7 @@ pub record Whole (v : Mv) : Type 0 where
   pub row : Grid (v .row)
   pub col : Grid (v .col)
 
--- how far neighbour k of a round lies along one axis: down with first 0, to the right with first 2; k counts up, down, left, right
+-- how far neighbour k of a round lies along one axis: down with first 0, to the right with first 2; the neighbours 0 to 3 are up, down, left, right
 abbrev pub stepAt : ℕ → ℕ → ℤ
 stepAt first k = cond (eqb k first) (minus 4) (cond (eqb k (first + 1)) (pos 4) (pos 0))
 
