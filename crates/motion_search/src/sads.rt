@@ -1,6 +1,6 @@
 // Sums of absolute differences (SADs) of macroblocks.
-use fetch::fill_luma_mb_halo;
-use fetch::fill_luma_mb_whole_pixel;
+use fetch::fetch_luma_mb_halo;
+use fetch::fetch_luma_mb_whole_pixel;
 use prediction::ceiling::Ceiled;
 use prediction::ceiling::NO_CEILING;
 use prediction::inverse_transform::abs_diff;
@@ -68,6 +68,16 @@ fn row_sad(a: &[u8], b: &[u8]) -> u32
     sum
 }
 
+// The SAD of row r of a block and of the rows of a plane, from a place on.
+fn row_at(src: &[u8], plane: &[u8], at: usize, stride: usize, r: usize) -> u32
+    requires { ⌜ (length (now src) ≡ 256) × (at + 15 * stride + 16 ≤ length (now plane)) × (r < 16) ⌝ }
+    ensures { λ s. ⌜ s ≡ rowApart (now (src .entry)) 0 16 (now (plane .entry)) at stride r ⌝ }
+{
+    let i = r * 16;
+    let j = at + r * stride;
+    row_sad(&src[i..i + 16], &plane[j..j + 16])
+}
+
 // The rows of `all_rows_sad` up to a ceiling: each row, once measured, is held against what is left of it. Four rows a turn. Gives the
 // number of rows measured, plus 32 times what is left of the ceiling where it was not reached: one number, which comes back in a
 // register.
@@ -78,30 +88,22 @@ fn rows_up_to(src: &[u8], plane: &[u8], at: usize, stride: usize, ceiling: u32) 
     let mut left = ceiling;
     let mut r: usize = 0;
     while r < 16 {
-        let i = r * 16;
-        let j = at + r * stride;
-        let first = row_sad(&src[i..i + 16], &plane[j..j + 16]);
+        let first = row_at(src, plane, at, stride, r);
         if left <= first {
             return r as u64 + 1;
         }
         let left2 = left - first;
-        let i2 = i + 16;
-        let j2 = j + stride;
-        let second = row_sad(&src[i2..i2 + 16], &plane[j2..j2 + 16]);
+        let second = row_at(src, plane, at, stride, r + 1);
         if left2 <= second {
             return r as u64 + 2;
         }
         let left3 = left2 - second;
-        let i3 = i2 + 16;
-        let j3 = j2 + stride;
-        let third = row_sad(&src[i3..i3 + 16], &plane[j3..j3 + 16]);
+        let third = row_at(src, plane, at, stride, r + 2);
         if left3 <= third {
             return r as u64 + 3;
         }
         let left4 = left3 - third;
-        let i4 = i3 + 16;
-        let j4 = j3 + stride;
-        let fourth = row_sad(&src[i4..i4 + 16], &plane[j4..j4 + 16]);
+        let fourth = row_at(src, plane, at, stride, r + 3);
         if left4 <= fourth {
             return r as u64 + 4;
         }
@@ -138,24 +140,15 @@ pub(crate) fn uncut_block_sad(src: &[u8], pred: &[u8]) -> u32
     all_rows_sad(src, pred, 0, 16)
 }
 
-// Fills a lent array with the block that is copied at a vector in eighths, whose fractions are not read.
-fn fill_copied(plane: &[u8], s: Site, eighths: Mv, block: &mut [u8; 256])
-    requires { ⌜ Ready (now plane) s (now block) ⌝ }
-    ensures { λ _. ⌜ now (block .exit) ≡ copiedAt (now (plane .entry)) s eighths ⌝ }
-    ensures { λ _. ⌜ length (now (block .exit)) ≡ 256 ⌝ }
-{
-    let x = 16 * s.column;
-    let y = 16 * s.row;
-    fill_luma_mb_whole_pixel(plane, s.stride, s.width, s.height, x, y, eighths, block);
-}
-
-// The SAD of that block up to a ceiling.
+// The SAD at a vector in eighths whose fractions are not read, up to a ceiling: the block is copied.
 fn fetched_sad(plane: &[u8], s: Site, src: &[u8], eighths: Mv, ceiling: u32) -> Ceiled
     requires { ⌜ Ready (now plane) s (now src) ⌝ }
     ensures { λ r. ⌜ CeiledIs (rowSad (now (src .entry)) (copiedAt (now (plane .entry)) s eighths)) 16 ceiling r ⌝ }
 {
-    let mut block = [0u8; 256];
-    fill_copied(plane, s, eighths, &mut block);
+    let x = 16 * s.column;
+    let y = 16 * s.row;
+    let fetched = fetch_luma_mb_whole_pixel(plane, s.stride, s.width, s.height, x, y, eighths);
+    let block = fetched.block;
     block_sad(src, &block, ceiling)
 }
 
@@ -164,8 +157,10 @@ fn uncut_fetched_sad(plane: &[u8], s: Site, src: &[u8], eighths: Mv) -> u32
     requires { ⌜ Ready (now plane) s (now src) ⌝ }
     ensures { λ r. ⌜ r ≡ sad16 (now (src .entry)) (copiedAt (now (plane .entry)) s eighths) ⌝ }
 {
-    let mut block = [0u8; 256];
-    fill_copied(plane, s, eighths, &mut block);
+    let x = 16 * s.column;
+    let y = 16 * s.row;
+    let fetched = fetch_luma_mb_whole_pixel(plane, s.stride, s.width, s.height, x, y, eighths);
+    let block = fetched.block;
     uncut_block_sad(src, &block)
 }
 
@@ -176,8 +171,8 @@ fn filtered_sad(plane: &[u8], s: Site, src: &[u8], eighths: Mv, ceiling: u32) ->
 {
     let x = 16 * s.column;
     let y = 16 * s.row;
-    let mut halo = [0u8; 441];
-    fill_luma_mb_halo(plane, s.stride, s.width, s.height, x, y, eighths, &mut halo);
+    let fetched = fetch_luma_mb_halo(plane, s.stride, s.width, s.height, x, y, eighths);
+    let halo = fetched.halo;
     let filtered = sixtap_mb_luma(halo, fraction(eighths.col), fraction(eighths.row));
     block_sad(src, &filtered.block, ceiling)
 }

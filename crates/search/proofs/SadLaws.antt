@@ -22,9 +22,7 @@ use Rattle.prediction.specs.Filter.{sixtap}
 use Rattle.prediction.specs.Prediction.{squareOf, macroblockOf, haloOf, offsetBy, predictedMb, filteredMb}
 use Rattle.prediction.specs.Refusals.{badOrigin, blockOf}
 use Rattle.prediction.specs.Internal.{rowApart}
-use Rattle.fetch.specs.declared.FetchAnswer.{FetchAnswer}
-use Rattle.fetch.specs.Refusals.{fetchLines, fetchOutcome}
-use Rattle.fetch.proofs.Squares.{fetched}
+use Rattle.fetch.specs.Refusals.{fetchLines}
 use Rattle.sixtap.specs.Refusals.{filterLines}
 use Rattle.sixtap.proofs.Laws.{square-at, predicted-byte, filtered-halo, whole-copy, sample-byte}
 use Rattle.search.specs.declared.Site.{Site}
@@ -37,8 +35,7 @@ pub sad-most : (src block : List ℕ) → ((i : ℕ) → getD src i 0 < 256) →
 unfolding sad16
 sad-most src block s b = sum-most _ 256 255 (λ i. omega (arith, s i, b i))
 
--- a macroblock has 256 samples
-pub long : (at : Samples) → length (macroblockOf at) ≡ 256
+long : (at : Samples) → length (macroblockOf at) ≡ 256
 unfolding squareOf
 long at = length-tabulate 256 _
 
@@ -126,10 +123,9 @@ module _ (bytes : List ℕ) (s : Site) (src : List ℕ) (r : Ready bytes s src) 
       let p = placed bytes s src r in
       simp (le-ltb 16368 (16 * s .column) (omega (arith, p .column)), le-ltb 16368 (16 * s .row) (omega (arith, p .row)))
 
-  -- what a fetch has filled is the accepted block
-  pub filled-is : (block held : List ℕ) (answer : FetchAnswer)
-      → fetchOutcome answer held ≡ firstOf (fetchLines (planeOf bytes s) (16 * s .column) (16 * s .row)) block → held ≡ block
-  filled-is block held answer e = fetched answer held block (simp (r .size, r .long, origin-fine) at e)
+  -- the block beside the answer is the accepted one
+  pub fetched-is : (n : ℕ) (a block : List ℕ) → block ≡ blockOf n (firstOf (fetchLines (planeOf bytes s) (16 * s .column) (16 * s .row)) a) → block ≡ a
+  fetched-is n a block e = simp (r .size, r .long, origin-fine) at e
 
 pub filtered-is : (x y : ℤ) (n : ℕ) (a block : List ℕ) → block ≡ blockOf n (firstOf (filterLines (fractionOf x) (fractionOf y)) a) → block ≡ a
 filtered-is x y n a block e = simp (le-ltb 7 (fractionOf x) (small x), le-ltb 7 (fractionOf y) (small y)) at e

@@ -7,7 +7,7 @@ use mir.Val.{SFits}
 use mir.Facts.{toZ-ofZ}
 use Rattle.prediction.specs.Vector.{fractionOf}
 use Rattle.search.proofs.Accepted.{placed}
-use Rattle.search.proofs.SadLaws.{filled-is, filtered-is, predicted-is}
+use Rattle.search.proofs.SadLaws.{fetched-is, filtered-is, predicted-is}
 use Rattle.motion_search.proofs.sads.filtered_sad.Statement.{statement}
 use Rattle.motion_search.proofs.sads.filtered_sad.Tie as tie
 
@@ -17,8 +17,8 @@ mul-x c = omega (arith, placed _ _ _ (c .before .before .before .pre) .column)
 mul-y : tie.Need-mul-y
 mul-y c = omega (arith, placed _ _ _ (c .before .before .before .before .pre) .row)
 
-fill-luma-mb-halo-requires : tie.Need-fill-luma-mb-halo-requires
-fill-luma-mb-halo-requires c κs = search needs
+fetch-luma-mb-halo-requires : tie.Need-fetch-luma-mb-halo-requires
+fetch-luma-mb-halo-requires c κs = search needs
 
 fraction-requires : tie.Need-fraction-requires
 fraction-requires c κs = search needs
@@ -35,15 +35,15 @@ block-sad-requires c κs = search needs
 returns : tie.Need-returns
 returns c =
     let m = c .before .before .before .before in
-    let h = m .before .before .before .before .before in
-    let s = h .before .before .before .before .before .before in
+    let h = m .before .before .before .before .before .before in
+    let s = h .before .before .before .before .before in
     let a = m .before .before .before .before .struct-told .given in
     let b = m .before .before .struct-told2 .given in
     let fc : SFits w16 (s .args .eighths .col) = search needs in
     let fr : SFits w16 (s .args .eighths .row) = search needs in
     let mx = m .before .before .before .fraction .ensures ∙ ap fractionOf (toZ-ofZ fc) in
     let my = m .before .fraction2 .ensures ∙ ap fractionOf (toZ-ofZ fr) in
-    let halo = filled-is _ _ _ (s .pre) _ _ (h .fill-luma-mb-halo .result) (h .fill-luma-mb-halo .ensures .outcome) in
+    let halo = fetched-is _ _ _ (s .pre) 441 _ _ (h .fetch-luma-mb-halo .ensures .beside) in
     rw (filtered-is (s .args .eighths .col) (s .args .eighths .row) 256 _ _ (rw (mx, my, halo) at (m .sixtap-mb-luma .ensures .beside))
     ∙ predicted-is (s .args .plane .now) (s .args .s) (s .args .eighths))
     at (c .block-sad .ensures)
@@ -54,7 +54,7 @@ filtered-sad-spec =
     (tie.spec
     mul-x
     mul-y
-    fill-luma-mb-halo-requires
+    fetch-luma-mb-halo-requires
     fraction-requires
     fraction-requires-2
     sixtap-mb-luma-requires

@@ -1,23 +1,38 @@
 -- `uncut_fetched_sad` meets its contract. Assumes nothing.
+use native.Mathlib.Omega.{arith}
 use borrow.Author.Needs.{needs}
-use mathlib.Core.Path.{refl}
+use Rattle.search.proofs.Accepted.{placed}
+use Rattle.search.proofs.SadLaws.{fetched-is}
 use Rattle.motion_search.proofs.sads.uncut_fetched_sad.Statement.{statement}
 use Rattle.motion_search.proofs.sads.uncut_fetched_sad.Tie as tie
 
-fill-copied-requires : tie.Need-fill-copied-requires
-fill-copied-requires c κs =
-    let r = c .before .before .before .pre in
-    record { size = r .size; long = r .long; place = r .place; source = refl }
+mul-x : tie.Need-mul-x
+mul-x c = omega (arith, placed _ _ _ (c .before .before .before .pre) .column)
+
+mul-y : tie.Need-mul-y
+mul-y c = omega (arith, placed _ _ _ (c .before .before .before .before .pre) .row)
+
+fetch-luma-mb-whole-pixel-requires : tie.Need-fetch-luma-mb-whole-pixel-requires
+fetch-luma-mb-whole-pixel-requires c κs = search needs
 
 slice-aggregate-uncut-block-sad : tie.Need-slice-aggregate-uncut-block-sad
-slice-aggregate-uncut-block-sad c = search (needs, c .before .fill-copied .ensures .1)
+slice-aggregate-uncut-block-sad c = search needs
 
 uncut-block-sad-requires : tie.Need-uncut-block-sad-requires
-uncut-block-sad-requires c κs = search (needs, c .before .fill-copied .ensures .1)
+uncut-block-sad-requires c κs = search needs
 
 returns : tie.Need-returns
-returns c = rw (c .before .before .fill-copied .ensures .0) at (c .uncut-block-sad .ensures)
+returns c =
+    let s = c .before .before .before .before .before .before .before .before in
+    rw (fetched-is _ _ _ (s .pre) 256 _ _ (c .before .before .before .fetch-luma-mb-whole-pixel .ensures .beside)) at (c .uncut-block-sad .ensures)
 
 pub uncut-fetched-sad-spec : {M : Type 1} → statement M
 uncut-fetched-sad-spec =
-    tie.close (tie.spec fill-copied-requires slice-aggregate-uncut-block-sad uncut-block-sad-requires returns)
+    tie.close
+    (tie.spec
+    mul-x
+    mul-y
+    fetch-luma-mb-whole-pixel-requires
+    slice-aggregate-uncut-block-sad
+    uncut-block-sad-requires
+    returns)
