@@ -1,4 +1,5 @@
 pub mod Edges
 pub mod Ceilings
 pub mod Rows
+pub mod Worked
 mod Cells

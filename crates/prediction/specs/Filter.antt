@@ -1,6 +1,8 @@
--- RFC 6386 section 18.3: one filtered sample, over any row of taps; and the six-tap rows. Assumes nothing.
+-- RFC 6386 section 18.3: one filtered sample, over any row of taps; the six-tap and the bilinear rows. Assumes nothing.
+use mathlib.Core.Bool.{cond}
 use mathlib.Core.List.{List, [], _∷_}
-use Prim.Native.Nat.{ℕ, zero, suc}
+use Prim.Native.Nat.{ℕ, zero, suc, _-_, _*_}
+use lib.Dec.{eqb}
 use lib.ListN.{getD}
 use lib.IntN.{ℤ, pos, _+ℤ_, _*ℤ_}
 use Rattle.prediction.specs.Samples.{clamped255}
@@ -37,7 +39,19 @@ sixtapRows =
 unfoldable pub sixtap : FilterRows
 sixtap selector k = getD (getD sixtapRows selector []) k (pos 0)
 
+-- the bilinear rows for the selectors 0 to 7: 128 - 16s on the sample and 16s on the next one, the third and the fourth of six
+unfoldable pub bilinear : FilterRows
+bilinear selector k = cond (eqb k 2) (pos (128 - 16 * selector)) (cond (eqb k 3) (pos (16 * selector)) (pos 0))
+
 -- the filter set of a version: six-tap for 0, bilinear for 1 to 255
 abbrev pub filterSetOf : ℕ → FilterSet
 filterSetOf zero = Sixtap
 filterSetOf (suc version) = Bilinear
+
+-- the rows of a filter set, and so of a version
+abbrev pub tapsOf : FilterSet → FilterRows
+tapsOf Sixtap = sixtap
+tapsOf Bilinear = bilinear
+
+abbrev pub rowsFor : ℕ → FilterRows
+rowsFor version = tapsOf (filterSetOf version)

@@ -1,10 +1,10 @@
--- Document 01's refusals 8, 9, 10 and 13: when each applies. Assumes nothing.
+-- Document 01's refusals 8, 9, 10 and 13, and document 02's 23: when each applies. Assumes nothing.
 use mathlib.Core.Bool.{Bool, _||_}
-use mathlib.Core.List.{List}
+use mathlib.Core.List.{List, [], _∷_}
 use Prim.Native.Nat.{ℕ}
 use lib.Dec.{ltb, eqb}
 use lib.ListN.{length, replicate}
-use Rattle.laws.specs.Outcome.{Outcome, refused, accepted}
+use Rattle.laws.specs.Outcome.{Outcome, refused, accepted, Line, line}
 use Rattle.prediction.specs.Plane.{Plane, bytesNeeded}
 
 -- 0 or above 16383
@@ -26,6 +26,13 @@ badOrigin x y = ltb 16368 x || ltb 16368 y
 -- 13. A filter selector exceeds 7
 abbrev pub badSelector : ℕ → Bool
 badSelector s = ltb 7 s
+
+-- 23. The version exceeds 2
+abbrev pub badVersion : ℕ → Bool
+badVersion version = ltb 2 version
+
+abbrev pub versionLines : ℕ → List Line
+versionLines version = line 23 (badVersion version) [] ∷ []
 
 -- the block of n samples beside an answer: the accepted one, or zeros with a refusal
 abbrev pub blockOf : ℕ → Outcome (List ℕ) → List ℕ

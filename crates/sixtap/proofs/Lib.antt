@@ -1,4 +1,2 @@
 pub mod Table
 pub mod Sizes
-pub mod Laws
-pub mod Passes

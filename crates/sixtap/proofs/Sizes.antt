@@ -8,7 +8,9 @@ use lib.IntN.{ℤ, pos, negℤ, _+ℤ_, _*ℤ_}
 use Rattle.laws.proofs.Signed.{times, neg, floor, Less, less-pos, less-sum, above-less}
 use Rattle.prediction.specs.Filter.{products, filtered, sixtapRows, sixtap}
 use Rattle.sixtap.specs.declared.Taps.{Taps}
-use Rattle.sixtap.specs.Internal.{Row, sampleOf, filteredList}
+use Rattle.filters.specs.Sets.{Identity}
+use Rattle.filters.specs.Internal.{filteredList}
+use Rattle.sixtap.specs.Internal.{Row, sampleOf}
 
 -- a product of a tap that is added, and of one that is taken away
 tap-pos : (z : ℤ) (t x : ℕ) → z ≡ pos t → Less (z *ℤ pos x) (t * x) 0
@@ -59,7 +61,7 @@ module _ (s : ℕ) (t : Taps) (r : Row s t) (sample : ℕ → ℕ) where
       let g = less-sum summed (less-pos 64) in
       omega (arith, floor (x +ℤ pos 64) 127 .up, above-less g)
 
-pub sample-law : (s : ℕ) (t : Taps) (w : List ℕ) → Row s t → sampleOf t w ≡ filteredList s w
+pub sample-law : (s : ℕ) (t : Taps) (w : List ℕ) → Row s t → sampleOf t w ≡ filteredList sixtap s w
 unfolding sampleOf filteredList
 sample-law s t w r = by-sizes s t r (λ k. getD w k 0)
 
@@ -67,13 +69,12 @@ sample-law s t w r = by-sizes s t r (λ k. getD w k 0)
 whole : Taps
 whole = record { a = 0; b = 0; c = 128; d = 0; e = 0; f = 0 }
 
-pub row-zero : (sample : ℕ → ℕ) → min (sample 2) 255 ≡ filtered (sixtap 0) sample
+row-zero : (sample : ℕ → ℕ) → min (sample 2) 255 ≡ filtered (sixtap 0) sample
 unfolding sixtap sixtapRows whole
 row-zero sample =
     let r : Row 0 whole = record { a = refl; b = refl; c = refl; d = refl; e = refl; f = refl } in
     let z : min (sample 2) 255 ≡ min ((0 * sample 0 + 128 * sample 2 + 0 * sample 3 + 0 * sample 5 + 64 - (0 * sample 1 + 0 * sample 4)) / 128) 255 = omega arith in
     z ∙ by-sizes 0 whole r sample
 
-pub zero-law : (w : List ℕ) → min (getD w 2 0) 255 ≡ filteredList 0 w
-unfolding filteredList
-zero-law w = row-zero (λ k. getD w k 0)
+pub sixtap-whole : Identity sixtap
+sixtap-whole = record { kept = row-zero }

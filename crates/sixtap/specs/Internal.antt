@@ -1,10 +1,11 @@
 -- What the private functions promise each other. No public contract uses these definitions. Assumes nothing.
-use mathlib.Core.List.{List, [], _∷_}
+use mathlib.Core.List.{List}
 use mathlib.Core.Path.{_≡_}
 use Prim.Native.Nat.{ℕ, _+_, _-_, _*_, _/_, _%_, _≤_, min}
 use lib.ListN.{getD}
 use lib.IntN.{pos, negℤ}
-use Rattle.prediction.specs.Filter.{sixtap, filtered}
+use Rattle.prediction.specs.Filter.{sixtap}
+use Rattle.filters.specs.Internal.{window}
 use Rattle.sixtap.specs.declared.Taps.{Taps}
 
 -- a row of taps by its sizes: the second and the fifth tap are not positive, the others not negative
@@ -32,30 +33,9 @@ taken t w = t .b * getD w 1 0 + t .e * getD w 4 0
 unfoldable pub sampleOf : Taps → List ℕ → ℕ
 sampleOf t w = min ((added t w + 64 - taken t w) / 128) 255
 
--- six samples, the first at `at`, each `step` past the one before
-abbrev pub window : List ℕ → ℕ → ℕ → List ℕ
-window xs at step =
-    getD xs at 0 ∷
-    getD xs (at + step) 0 ∷
-    getD xs (at + 2 * step) 0 ∷
-    getD xs (at + 3 * step) 0 ∷
-    getD xs (at + 4 * step) 0 ∷
-    getD xs (at + 5 * step) 0 ∷ []
-
--- a filtered sample from six samples in a list
-unfoldable pub filteredList : ℕ → List ℕ → ℕ
-filteredList s w = filtered (sixtap s) (λ k. getD w k 0)
-
 -- sample i of either pass, by the sizes of a row's taps
 abbrev pub across : Taps → List ℕ → ℕ → ℕ
 across t halo i = sampleOf t (window halo (i / 16 * 21 + i % 16) 1)
 
 abbrev pub down : Taps → List ℕ → ℕ → ℕ
 down t rows i = sampleOf t (window rows i 16)
-
--- sample i of either pass: 21 rows of 16 from a halo, 16 rows of 16 from those
-abbrev pub acrossOf : ℕ → List ℕ → ℕ → ℕ
-acrossOf mx halo i = filteredList mx (window halo (i / 16 * 21 + i % 16) 1)
-
-abbrev pub downOf : ℕ → List ℕ → ℕ → ℕ
-downOf my rows i = filteredList my (window rows i 16)

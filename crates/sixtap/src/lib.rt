@@ -1,4 +1,6 @@
 // The six-tap filter of a macroblock: RFC 6386 section 18.3.
+use filters::FilterAnswer;
+use filters::FilteredMb;
 use prediction::inverse_transform::clamp255;
 ghost use mathlib.Core.Path.{_≡_};
 ghost use Prim.Native.Nat.{_+_, _-_, _*_, _/_, _≤_, _<_, min};
@@ -9,8 +11,10 @@ ghost use Rattle.laws.specs.Tabulate.{tabulate};
 ghost use Rattle.laws.specs.Internal.{Filling};
 ghost use Rattle.prediction.specs.Filter.{sixtap, filtered};
 ghost use Rattle.prediction.specs.Prediction.{filteredMb};
-ghost use Rattle.sixtap.specs.Refusals.{filterLines, selectorLines, sampleOutcome, FilterIs};
-ghost use Rattle.sixtap.specs.Internal.{Row, Small, sampleOf, window, across, down, acrossOf, downOf};
+ghost use Rattle.filters.specs.Refusals.{filterLines, selectorLines, FilterIs};
+ghost use Rattle.filters.specs.Internal.{window, acrossOf, downOf};
+ghost use Rattle.sixtap.specs.Refusals.{sampleOutcome};
+ghost use Rattle.sixtap.specs.Internal.{Row, Small, sampleOf, across, down};
 
 // The six-tap rows, by selector.
 pub const SIXTAP_FILTERS: [[i32; 6]; 8] = [
@@ -181,8 +185,8 @@ fn kept(x: u8) -> u8
 
 // Row r of the horizontal pass where its selector is 0.
 fn copy_row(out: &mut [u8; 336], halo: &[u8; 441], r: usize)
-    requires { ⌜ (r < 21) × (length (now halo) ≡ 441) × Filling (acrossOf 0 (now halo)) 336 (now out) (r * 16) ⌝ }
-    ensures { λ _. ⌜ Filling (acrossOf 0 (now (halo .entry))) 336 (now (out .exit)) (r * 16 + 16) ⌝ }
+    requires { ⌜ (r < 21) × (length (now halo) ≡ 441) × Filling (acrossOf sixtap 0 (now halo)) 336 (now out) (r * 16) ⌝ }
+    ensures { λ _. ⌜ Filling (acrossOf sixtap 0 (now (halo .entry))) 336 (now (out .exit)) (r * 16 + 16) ⌝ }
 {
     for k in 0..16 {
         out[r * 16 + k] = kept(halo[r * 21 + k + 2]);
@@ -191,7 +195,7 @@ fn copy_row(out: &mut [u8; 336], halo: &[u8; 441], r: usize)
 
 // The horizontal pass where its selector is 0.
 fn middle_columns(halo: [u8; 441]) -> [u8; 336]
-    ensures { λ r. ⌜ r ≡ tabulate 336 (acrossOf 0 halo) ⌝ }
+    ensures { λ r. ⌜ r ≡ tabulate 336 (acrossOf sixtap 0 halo) ⌝ }
 {
     let mut out = [0u8; 336];
     for r in 0..21 {
@@ -202,7 +206,7 @@ fn middle_columns(halo: [u8; 441]) -> [u8; 336]
 
 // The vertical pass where its selector is 0.
 fn middle_rows(rows: [u8; 336]) -> [u8; 256]
-    ensures { λ r. ⌜ r ≡ tabulate 256 (downOf 0 rows) ⌝ }
+    ensures { λ r. ⌜ r ≡ tabulate 256 (downOf sixtap 0 rows) ⌝ }
 {
     let mut out = [0u8; 256];
     for i in 0..256 {
@@ -214,7 +218,7 @@ fn middle_rows(rows: [u8; 336]) -> [u8; 256]
 // The horizontal pass of a selector.
 fn horizontal(halo: [u8; 441], mx: usize) -> [u8; 336]
     requires { ⌜ mx < 8 ⌝ }
-    ensures { λ r. ⌜ r ≡ tabulate 336 (acrossOf mx halo) ⌝ }
+    ensures { λ r. ⌜ r ≡ tabulate 336 (acrossOf sixtap mx halo) ⌝ }
 {
     if mx == 0 {
         return middle_columns(halo);
@@ -226,25 +230,13 @@ fn horizontal(halo: [u8; 441], mx: usize) -> [u8; 336]
 // The vertical pass of a selector.
 fn vertical(rows: [u8; 336], my: usize) -> [u8; 256]
     requires { ⌜ my < 8 ⌝ }
-    ensures { λ r. ⌜ r ≡ tabulate 256 (downOf my rows) ⌝ }
+    ensures { λ r. ⌜ r ≡ tabulate 256 (downOf sixtap my rows) ⌝ }
 {
     if my == 0 {
         return middle_rows(rows);
     }
     let t = row(my);
     sixtap_vert(rows, t)
-}
-
-// A filtered macroblock, or that a selector exceeds 7.
-pub enum FilterAnswer {
-    Filtered,
-    BadSelector,
-}
-
-// The macroblock beside the answer: all zeros with a refusal.
-pub struct FilteredMb {
-    pub answer: FilterAnswer,
-    pub block: [u8; 256],
 }
 
 // The macroblock filtered from its halo, the horizontal pass first.

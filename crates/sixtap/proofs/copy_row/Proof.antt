@@ -6,19 +6,20 @@ use mathlib.Core.Path.{_≡_, refl, _∙_, ap, subst}
 use lib.ListN.{length, getD}
 use Rattle.laws.specs.Internal.{Filling}
 use Rattle.laws.proofs.Tabulate.{fill-start, fill-turn, fill-end, fill-at}
-use Rattle.prediction.specs.Filter.{filtered}
-use Rattle.sixtap.proofs.Sizes.{zero-law}
-use Rattle.sixtap.specs.Internal.{window, acrossOf, downOf}
+use Rattle.prediction.specs.Filter.{sixtap}
+use Rattle.filters.specs.Internal.{window, acrossOf}
+use Rattle.filters.proofs.Passes.{kept-is}
+use Rattle.sixtap.proofs.Sizes.{sixtap-whole}
 use Rattle.sixtap.proofs.copy_row.Statement.{statement}
 use Rattle.sixtap.proofs.copy_row.Tie as tie
 
-place : (halo : List ℕ) (r k : ℕ) → k < 16 → min (getD halo (r * 21 + k + 2) 0) 255 ≡ acrossOf 0 halo (r * 16 + k)
+place : (halo : List ℕ) (r k : ℕ) → k < 16 → min (getD halo (r * 21 + k + 2) 0) 255 ≡ acrossOf sixtap 0 halo (r * 16 + k)
 place halo r k h =
     let e : r * 21 + k + 2 ≡ (r * 16 + k) / 16 * 21 + (r * 16 + k) % 16 + 2 * 1 = omega arith in
-    ap (λ (n : ℕ). min (getD halo n 0) 255) e ∙ zero-law (window halo ((r * 16 + k) / 16 * 21 + (r * 16 + k) % 16) 1)
+    ap (λ (n : ℕ). min (getD halo n 0) 255) e ∙ kept-is sixtap sixtap-whole (window halo ((r * 16 + k) / 16 * 21 + (r * 16 + k) % 16) 1)
 
 abbrev Inv-loop : tie.InvT-loop
-Inv-loop out₀ halo r k₀ out k = (k ≤ 16) × (length halo ≡ 441) × Filling (acrossOf 0 halo) 336 out (r * 16 + k)
+Inv-loop out₀ halo r k₀ out k = (k ≤ 16) × (length halo ≡ 441) × Filling (acrossOf sixtap 0 halo) 336 out (r * 16 + k)
 
 abbrev μ-loop : tie.MeasureT-loop
 μ-loop out₀ halo r k₀ out k = 16 - k

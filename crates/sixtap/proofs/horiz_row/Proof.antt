@@ -8,7 +8,8 @@ use Rattle.laws.specs.Internal.{Filling}
 use Rattle.laws.proofs.Tabulate.{fill-turn, fill-at}
 use Rattle.sixtap.specs.Internal.{sampleOf}
 use Rattle.sixtap.specs.declared.Taps.{Taps}
-use Rattle.sixtap.specs.Internal.{window, across}
+use Rattle.filters.specs.Internal.{window}
+use Rattle.sixtap.specs.Internal.{across}
 use Rattle.sixtap.proofs.horiz_row.Statement.{statement}
 use Rattle.sixtap.proofs.horiz_row.Tie as tie
 

@@ -5,7 +5,8 @@ use Prim.Native.Nat.{ℕ}
 use Rattle.laws.specs.Tabulate.{tabulate}
 use Rattle.laws.proofs.Tabulate.{tabulate-same}
 use Rattle.sixtap.proofs.Sizes.{sample-law}
-use Rattle.sixtap.specs.Internal.{acrossOf}
+use Rattle.prediction.specs.Filter.{sixtap}
+use Rattle.filters.specs.Internal.{acrossOf}
 use Rattle.sixtap.proofs.horizontal.Statement.{statement}
 use Rattle.sixtap.proofs.horizontal.Tie as tie
 
@@ -15,7 +16,7 @@ middle-columns-requires c κs = search needs
 returns : tie.Need-returns
 returns c =
     let z : 0 ≡ c .before .before .args .mx = omega arith in
-    c .middle-columns .ensures ∙ ap (λ (n : ℕ). tabulate 336 (acrossOf n (c .before .before .args .halo))) z
+    c .middle-columns .ensures ∙ ap (λ (n : ℕ). tabulate 336 (acrossOf sixtap n (c .before .before .args .halo))) z
 
 row-requires : tie.Need-row-requires
 row-requires c κs = search needs

@@ -4,7 +4,7 @@ use borrow.Author.Tests.{lt-ltb, le-ltb}
 use mathlib.Core.Path.{_≡_, _∙_, ap}
 use Prim.Native.Nat.{ℕ}
 use Rattle.laws.specs.Outcome.{Outcome, accepted}
-use Rattle.sixtap.specs.Internal.{filteredList}
+use Rattle.filters.specs.Internal.{filteredList}
 use Rattle.sixtap.proofs.Sizes.{sample-law}
 use Rattle.sixtap.proofs.interp.Statement.{statement}
 use Rattle.sixtap.proofs.interp.Tie as tie

@@ -6,12 +6,13 @@ use mathlib.Core.List.{List}
 use lib.ListN.{length}
 use Rattle.laws.specs.Internal.{Filling}
 use Rattle.laws.proofs.Tabulate.{fill-start, fill-end, fill-at}
-use Rattle.sixtap.specs.Internal.{acrossOf}
+use Rattle.prediction.specs.Filter.{sixtap}
+use Rattle.filters.specs.Internal.{acrossOf}
 use Rattle.sixtap.proofs.middle_columns.Statement.{statement}
 use Rattle.sixtap.proofs.middle_columns.Tie as tie
 
 abbrev Inv-loop : tie.InvT-loop
-Inv-loop halo out₀ r₀ out r = (r ≤ 21) × (length halo ≡ 441) × Filling (acrossOf 0 halo) 336 out (r * 16)
+Inv-loop halo out₀ r₀ out r = (r ≤ 21) × (length halo ≡ 441) × Filling (acrossOf sixtap 0 halo) 336 out (r * 16)
 
 abbrev μ-loop : tie.MeasureT-loop
 μ-loop halo out₀ r₀ out r = 21 - r

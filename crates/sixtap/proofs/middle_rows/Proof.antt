@@ -6,17 +6,18 @@ use mathlib.Core.Path.{_≡_, refl, _∙_, ap, subst}
 use lib.ListN.{length, getD}
 use Rattle.laws.specs.Internal.{Filling}
 use Rattle.laws.proofs.Tabulate.{fill-start, fill-turn, fill-end}
-use Rattle.prediction.specs.Filter.{filtered}
-use Rattle.sixtap.proofs.Sizes.{zero-law}
-use Rattle.sixtap.specs.Internal.{window, acrossOf, downOf}
+use Rattle.prediction.specs.Filter.{sixtap}
+use Rattle.filters.specs.Internal.{window, downOf}
+use Rattle.filters.proofs.Passes.{kept-is}
+use Rattle.sixtap.proofs.Sizes.{sixtap-whole}
 use Rattle.sixtap.proofs.middle_rows.Statement.{statement}
 use Rattle.sixtap.proofs.middle_rows.Tie as tie
 
-place : (rows : List ℕ) (i : ℕ) → min (getD rows (i + 32) 0) 255 ≡ downOf 0 rows i
-place rows i = zero-law (window rows i 16)
+place : (rows : List ℕ) (i : ℕ) → min (getD rows (i + 32) 0) 255 ≡ downOf sixtap 0 rows i
+place rows i = kept-is sixtap sixtap-whole (window rows i 16)
 
 abbrev Inv-loop : tie.InvT-loop
-Inv-loop rows out₀ i₀ out i = Filling (downOf 0 rows) 256 out i × (length rows ≡ 336)
+Inv-loop rows out₀ i₀ out i = Filling (downOf sixtap 0 rows) 256 out i × (length rows ≡ 336)
 
 abbrev μ-loop : tie.MeasureT-loop
 μ-loop rows out₀ i₀ out i = 256 - i

@@ -5,7 +5,8 @@ use Prim.Native.Nat.{ℕ}
 use Rattle.laws.specs.Tabulate.{tabulate}
 use Rattle.laws.proofs.Tabulate.{tabulate-same}
 use Rattle.sixtap.proofs.Sizes.{sample-law}
-use Rattle.sixtap.specs.Internal.{downOf}
+use Rattle.prediction.specs.Filter.{sixtap}
+use Rattle.filters.specs.Internal.{downOf}
 use Rattle.sixtap.proofs.vertical.Statement.{statement}
 use Rattle.sixtap.proofs.vertical.Tie as tie
 
@@ -15,7 +16,7 @@ middle-rows-requires c κs = search needs
 returns : tie.Need-returns
 returns c =
     let z : 0 ≡ c .before .before .args .my = omega arith in
-    c .middle-rows .ensures ∙ ap (λ (n : ℕ). tabulate 256 (downOf n (c .before .before .args .rows))) z
+    c .middle-rows .ensures ∙ ap (λ (n : ℕ). tabulate 256 (downOf sixtap n (c .before .before .args .rows))) z
 
 row-requires : tie.Need-row-requires
 row-requires c κs = search needs

@@ -11,20 +11,23 @@ use Rattle.laws.specs.Tabulate.{tabulate}
 use Rattle.laws.proofs.Tabulate.{tabulate-same, getD-tabulate}
 use Rattle.prediction.specs.Samples.{clamped255}
 use Rattle.prediction.specs.Plane.{Samples, Plane, sampleAt}
-use Rattle.prediction.specs.Filter.{FilterRows, products, filtered, sixtap}
+use Rattle.prediction.specs.Filter.{FilterRows, products, filtered}
 use Rattle.prediction.specs.Prediction.{horizontalAt, verticalAt, predictedAt, squareOf, macroblockOf, haloOf, haloSamples, filteredMb}
-use Rattle.sixtap.proofs.Sizes.{row-zero}
+use Rattle.filters.specs.Sets.{Identity}
 
--- a filtered sample goes by its six samples, and is a sample
+-- a filtered sample goes by its six products, and so by its six samples, and is a sample
 module _ (tap : ℕ → ℤ) (f g : ℕ → ℕ) where
-  products-same : (n : ℕ) → ((k : ℕ) → k < n → f k ≡ g k) → products tap f n ≡ products tap g n
+  products-by : (n : ℕ) → ((k : ℕ) → k < n → tap k *ℤ pos (f k) ≡ tap k *ℤ pos (g k)) → products tap f n ≡ products tap g n
   unfolding products
-  products-same zero h = refl
-  products-same (suc n) h = rw (products-same n (λ k l. h k (omega arith)), h n (omega arith))
+  products-by zero h = refl
+  products-by (suc n) h = rw (products-by n (λ k l. h k (omega arith)), h n (omega arith))
+
+  pub filtered-by : ((k : ℕ) → k < 6 → tap k *ℤ pos (f k) ≡ tap k *ℤ pos (g k)) → filtered tap f ≡ filtered tap g
+  unfolding filtered
+  filtered-by h = ap (λ (z : ℤ). clamped255 (floorDiv (z +ℤ pos 64) 128)) (products-by 6 h)
 
   pub filtered-same : ((k : ℕ) → k < 6 → f k ≡ g k) → filtered tap f ≡ filtered tap g
-  unfolding filtered
-  filtered-same h = ap (λ (z : ℤ). clamped255 (floorDiv (z +ℤ pos 64) 128)) (products-same 6 h)
+  filtered-same h = filtered-by (λ k l. ap (λ (n : ℕ). tap k *ℤ pos n) (h k l))
 
 pub filtered-byte : (tap : ℕ → ℤ) (f : ℕ → ℕ) → filtered tap f < 256
 unfolding filtered
@@ -107,18 +110,19 @@ filtered-halo set mx my at =
 here : (x : ℤ) → x +ℤ pos 2 -ℤ pos 2 ≡ x
 here x = same _ _ (omega (arith, sum x (pos 2) .up, sum x (pos 2) .dn, diff (x +ℤ pos 2) (pos 2) .up, diff (x +ℤ pos 2) (pos 2) .dn))
 
-whole-sample : (at : Samples) → ((x y : ℤ) → at x y < 256) → (x y : ℤ) → predictedAt sixtap 0 0 at x y ≡ at x y
-unfolding verticalAt horizontalAt
-whole-sample at bytes x y =
-    let inner : ℕ → ℕ = λ k. filtered (sixtap 0) (λ i. at (x +ℤ pos i -ℤ pos 2) (y +ℤ pos k -ℤ pos 2)) in
-    let p : min (inner 2) 255 ≡ filtered (sixtap 0) inner = row-zero inner in
-    let q : min (at (x +ℤ pos 2 -ℤ pos 2) (y +ℤ pos 2 -ℤ pos 2)) 255 ≡ inner 2 = row-zero (λ i. at (x +ℤ pos i -ℤ pos 2) (y +ℤ pos 2 -ℤ pos 2)) in
-    let r : at (x +ℤ pos 2 -ℤ pos 2) (y +ℤ pos 2 -ℤ pos 2) ≡ at x y = rw (here x, here y) in
-    let b : at x y < 256 = bytes x y in
-    sym p ∙ omega arith
+module _ (set : FilterRows) (whole : Identity set) (at : Samples) (bytes : (x y : ℤ) → at x y < 256) where
+  whole-sample : (x y : ℤ) → predictedAt set 0 0 at x y ≡ at x y
+  unfolding verticalAt horizontalAt
+  whole-sample x y =
+      let inner : ℕ → ℕ = λ k. filtered (set 0) (λ i. at (x +ℤ pos i -ℤ pos 2) (y +ℤ pos k -ℤ pos 2)) in
+      let p : min (inner 2) 255 ≡ filtered (set 0) inner = whole .kept inner in
+      let q : min (at (x +ℤ pos 2 -ℤ pos 2) (y +ℤ pos 2 -ℤ pos 2)) 255 ≡ inner 2 = whole .kept (λ i. at (x +ℤ pos i -ℤ pos 2) (y +ℤ pos 2 -ℤ pos 2)) in
+      let r : at (x +ℤ pos 2 -ℤ pos 2) (y +ℤ pos 2 -ℤ pos 2) ≡ at x y = rw (here x, here y) in
+      let b : at x y < 256 = bytes x y in
+      sym p ∙ omega arith
 
-pub whole-copy : (at : Samples) → ((x y : ℤ) → at x y < 256) → macroblockOf (predictedAt sixtap 0 0 at) ≡ macroblockOf at
-whole-copy at bytes = square-same 16 (pos 0) (pos 0) (pos 0) (pos 0) _ _ (λ i h. whole-sample at bytes (pos 0 +ℤ pos (i % 16)) (pos 0 +ℤ pos (i / 16)))
+  pub whole-copy : macroblockOf (predictedAt set 0 0 at) ≡ macroblockOf at
+  whole-copy = square-same 16 (pos 0) (pos 0) (pos 0) (pos 0) _ _ (λ i h. whole-sample (pos 0 +ℤ pos (i % 16)) (pos 0 +ℤ pos (i / 16)))
 
 -- the samples of a plane of bytes are below 256
 pub sample-byte : (p : Plane) → ((k : ℕ) → getD (p .bytes) k 0 < 256) → (x y : ℤ) → sampleAt p x y < 256

@@ -1,0 +1,3 @@
+pub mod Sets
+pub mod Refusals
+pub mod Internal
