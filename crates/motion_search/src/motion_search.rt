@@ -2,6 +2,7 @@
 use crate::diamond::small_diamond;
 use crate::refinement::refine_at;
 use crate::refusals::bad_macroblock;
+use crate::refusals::bad_version;
 use crate::refusals::off_grid;
 use crate::refusals::out_of_range;
 use crate::sads::block_sad;
@@ -11,6 +12,7 @@ use crate::sads::uncut_whole_sad;
 use fetch::bad_size;
 use fetch::short_plane;
 use prediction::ceiling::Ceiled;
+use prediction::motion_comp::filter_set_for_version;
 use prediction::motion_vector::Mv;
 use search::DiamondAnswer;
 use search::SadAnswer;
@@ -22,11 +24,12 @@ ghost use Prim.Native.Nat.{_*_, _≤_, _<_};
 ghost use lib.ListN.{length};
 ghost use Rattle.laws.specs.Outcome.{firstOf};
 ghost use Rattle.prediction.specs.Plane.{lumaPlane};
+ghost use Rattle.prediction.specs.Filter.{rowsFor};
 ghost use Rattle.prediction.specs.Ceiled.{CeiledIs};
-ghost use Rattle.search.specs.Sad.{sad16, rowSad, costOf};
+ghost use Rattle.search.specs.Sad.{sad16, rowSad, costIn, costOf};
 ghost use Rattle.search.specs.Search.{diamond, refine};
-ghost use Rattle.search.specs.Refusals.{placeLines, vectorLines, gridLines, sadOutcome, searchOutcome, diamondOutcome};
-ghost use Rattle.search.specs.Internal.{planeOf, costAt};
+ghost use Rattle.search.specs.Refusals.{placeLines, gridLines, anySadLines, refineLines, sadOutcome, searchOutcome, diamondOutcome};
+ghost use Rattle.search.specs.Internal.{planeOf, costBy};
 
 // The range of a component, in quarter pixels.
 pub const MV_MIN: i16 = -1023;
@@ -109,7 +112,7 @@ pub fn mb_luma_sad_at_whole_mv(
     }
 }
 
-// The SAD of a macroblock at any vector in range: every one is on the grid of 1.
+// The SAD of a macroblock at any vector in range, by a version's filter: every vector is on the grid of 1.
 pub fn mb_luma_sad_at_mv(
     plane: &[u8],
     stride: usize,
@@ -119,13 +122,17 @@ pub fn mb_luma_sad_at_mv(
     mb_row: usize,
     src_y: &[u8; 256],
     mv: Mv,
+    version: u8,
 ) -> SadAnswer
     ensures { λ r.
         ⌜ sadOutcome r
-        ≡ firstOf (vectorLines (lumaPlane (now (plane .entry)) stride width height) «mb_col» «mb_row» mv)
-        (costOf (lumaPlane (now (plane .entry)) stride width height) «mb_col» «mb_row» (now («src_y» .entry)) mv)
+        ≡ firstOf (anySadLines version (lumaPlane (now (plane .entry)) stride width height) «mb_col» «mb_row» mv)
+        (costIn (rowsFor version) (lumaPlane (now (plane .entry)) stride width height) «mb_col» «mb_row» (now («src_y» .entry)) mv)
         ⌝ }
 {
+    if bad_version(version) {
+        return SadAnswer::BadVersion;
+    }
     let s = Site {
         stride: stride,
         width: width,
@@ -135,7 +142,8 @@ pub fn mb_luma_sad_at_mv(
     };
     let first = checked(plane, s, mv, 1);
     if let SadAnswer::Sad(_) = first {
-        SadAnswer::Sad(uncut_any_sad(plane, s, src_y, mv))
+        let set = filter_set_for_version(version);
+        SadAnswer::Sad(uncut_any_sad(plane, s, src_y, mv, set))
     } else {
         first
     }
@@ -178,33 +186,45 @@ pub fn small_diamond_search_luma(
     DiamondAnswer::Found(small_diamond(plane, s, src_y, center, max_iters))
 }
 
-// Refines by a step a centre on the grid of twice the step; refuses as `checked` does.
-fn refine_luma(plane: &[u8], s: Site, src: &[u8], center: Mv, step: u32) -> SearchAnswer
+// Refines by a step and a version's filter a centre on the grid of twice the step; refuses the version, then as `checked` does.
+fn refine_luma(
+    plane: &[u8],
+    s: Site,
+    src: &[u8],
+    center: Mv,
+    step: u32,
+    version: u8,
+) -> SearchAnswer
     requires { ⌜ (length (now src) ≡ 256) × (0 < step) × (step ≤ 2) ⌝ }
     ensures { λ r.
         ⌜ searchOutcome r
-        ≡ firstOf (gridLines (2 * step) (planeOf (now (plane .entry)) s) (s .column) (s .row) center)
-        (refine (costAt (now (plane .entry)) s (now (src .entry))) step center)
+        ≡ firstOf (refineLines version (2 * step) (planeOf (now (plane .entry)) s) (s .column) (s .row) center)
+        (refine (costBy (rowsFor version) (now (plane .entry)) s (now (src .entry))) step center)
         ⌝ }
 {
+    if bad_version(version) {
+        return SearchAnswer::BadVersion;
+    }
     let first = checked(plane, s, center, 2 * step);
     match first {
         SadAnswer::Sad(_) => {
+            let set = filter_set_for_version(version);
             let start = SearchResult {
                 mv: center,
-                sad: uncut_any_sad(plane, s, src, center),
+                sad: uncut_any_sad(plane, s, src, center, set),
             };
-            SearchAnswer::Found(refine_at(plane, s, src, start, step))
+            SearchAnswer::Found(refine_at(plane, s, src, start, step, set))
         }
         SadAnswer::BadSize => SearchAnswer::BadSize,
         SadAnswer::ShortPlane => SearchAnswer::ShortPlane,
         SadAnswer::BadMacroblock => SearchAnswer::BadMacroblock,
         SadAnswer::OutOfRange => SearchAnswer::OutOfRange,
         SadAnswer::OffGrid => SearchAnswer::OffGrid,
+        SadAnswer::BadVersion => SearchAnswer::BadVersion,
     }
 }
 
-// The centre, a whole vector, and its eight neighbours at half a pixel.
+// The centre, a whole vector, and its eight neighbours at half a pixel, by a version's filter.
 pub fn half_pixel_refine_luma(
     plane: &[u8],
     stride: usize,
@@ -214,11 +234,12 @@ pub fn half_pixel_refine_luma(
     mb_row: usize,
     src_y: &[u8; 256],
     whole_pixel_center: Mv,
+    version: u8,
 ) -> SearchAnswer
     ensures { λ r.
         ⌜ searchOutcome r
-        ≡ firstOf (gridLines 4 (lumaPlane (now (plane .entry)) stride width height) «mb_col» «mb_row» «whole_pixel_center»)
-        (refine (costOf (lumaPlane (now (plane .entry)) stride width height) «mb_col» «mb_row» (now («src_y» .entry))) 2 «whole_pixel_center»)
+        ≡ firstOf (refineLines version 4 (lumaPlane (now (plane .entry)) stride width height) «mb_col» «mb_row» «whole_pixel_center»)
+        (refine (costIn (rowsFor version) (lumaPlane (now (plane .entry)) stride width height) «mb_col» «mb_row» (now («src_y» .entry))) 2 «whole_pixel_center»)
         ⌝ }
 {
     let s = Site {
@@ -228,10 +249,17 @@ pub fn half_pixel_refine_luma(
         column: mb_col,
         row: mb_row,
     };
-    refine_luma(plane, s, src_y, whole_pixel_center, HALF_PIXEL_STEP as u32)
+    refine_luma(
+        plane,
+        s,
+        src_y,
+        whole_pixel_center,
+        HALF_PIXEL_STEP as u32,
+        version,
+    )
 }
 
-// The centre, a vector on the grid of half pixels, and its eight neighbours at a quarter pixel.
+// The centre, a vector on the grid of half pixels, and its eight neighbours at a quarter pixel, by a version's filter.
 pub fn quarter_pixel_refine_luma(
     plane: &[u8],
     stride: usize,
@@ -241,11 +269,12 @@ pub fn quarter_pixel_refine_luma(
     mb_row: usize,
     src_y: &[u8; 256],
     half_pixel_center: Mv,
+    version: u8,
 ) -> SearchAnswer
     ensures { λ r.
         ⌜ searchOutcome r
-        ≡ firstOf (gridLines 2 (lumaPlane (now (plane .entry)) stride width height) «mb_col» «mb_row» «half_pixel_center»)
-        (refine (costOf (lumaPlane (now (plane .entry)) stride width height) «mb_col» «mb_row» (now («src_y» .entry))) 1 «half_pixel_center»)
+        ≡ firstOf (refineLines version 2 (lumaPlane (now (plane .entry)) stride width height) «mb_col» «mb_row» «half_pixel_center»)
+        (refine (costIn (rowsFor version) (lumaPlane (now (plane .entry)) stride width height) «mb_col» «mb_row» (now («src_y» .entry))) 1 «half_pixel_center»)
         ⌝ }
 {
     let s = Site {
@@ -261,5 +290,6 @@ pub fn quarter_pixel_refine_luma(
         src_y,
         half_pixel_center,
         QUARTER_PIXEL_STEP as u32,
+        version,
     )
 }

@@ -1,11 +1,19 @@
-// One function for each line of the refusals 10 to 12; those of 8 and 9 are the fetches' own.
+// One function for each line of the refusals 10 to 12 and of 23; those of 8 and 9 are the fetches' own.
 use crate::motion_search::MV_MAX;
 use crate::motion_search::MV_MIN;
 use prediction::motion_vector::Mv;
 ghost use mathlib.Core.Path.{_≡_};
 ghost use Prim.Native.Nat.{_<_};
 ghost use lib.IntN.{natAbs};
+ghost use Rattle.prediction.specs.Refusals.{badVersion};
 ghost use Rattle.search.specs.Refusals.{badMacroblock, outside, outOfRange, notMultiple, offGrid};
+
+// 23.
+pub(crate) fn bad_version(version: u8) -> bool
+    ensures { λ r. ⌜ r ≡ badVersion version ⌝ }
+{
+    2 < version
+}
 
 // 10.
 pub(crate) fn bad_macroblock(column: usize, row: usize) -> bool

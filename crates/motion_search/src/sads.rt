@@ -1,9 +1,12 @@
 // Sums of absolute differences (SADs) of macroblocks.
+use bilinear::bilinear_mb_luma;
 use fetch::fetch_luma_mb_halo;
 use fetch::fetch_luma_mb_whole_pixel;
+use filters::FilteredMb;
 use prediction::ceiling::Ceiled;
 use prediction::ceiling::NO_CEILING;
 use prediction::inverse_transform::abs_diff;
+use prediction::motion_comp::FilterSet;
 use prediction::motion_comp::fraction;
 use prediction::motion_comp::stored_luma_mv;
 use prediction::motion_comp::whole_offset;
@@ -15,13 +18,17 @@ ghost use Prim.Native.Nat.{_+_, _-_, _*_, _/_, _≤_, _<_};
 ghost use mathlib.Core.Bool.{true};
 ghost use lib.ListN.{length, getD};
 ghost use Rattle.laws.specs.Signed.{above, below};
+ghost use Rattle.laws.specs.Outcome.{firstOf};
 ghost use Rattle.laws.specs.Sums.{sumBelow};
 ghost use Rattle.prediction.specs.Samples.{distance};
 ghost use Rattle.prediction.specs.Vector.{wholeOf};
+ghost use Rattle.prediction.specs.Filter.{sixtap, tapsOf};
+ghost use Rattle.prediction.specs.Prediction.{filteredMb};
 ghost use Rattle.prediction.specs.Ceiled.{CeiledIs};
 ghost use Rattle.prediction.specs.Internal.{rowApart, parts};
+ghost use Rattle.filters.specs.Refusals.{filterLines, FilterIs};
 ghost use Rattle.search.specs.Sad.{sad16, rowSad};
-ghost use Rattle.search.specs.Internal.{costAt, costRow, copiedAt, predictedFrom, Ready, Copied, Inside, Lying, twoApart};
+ghost use Rattle.search.specs.Internal.{costAt, costBy, costRow, copiedAt, predictedFrom, Ready, Copied, Inside, Lying, twoApart};
 
 // The SAD of two rows of a block, which follow one another, and of two rows of a plane.
 fn two_rows_sad(a: &[u8], b: &[u8], c: &[u8]) -> u32
@@ -164,23 +171,48 @@ fn uncut_fetched_sad(plane: &[u8], s: Site, src: &[u8], eighths: Mv) -> u32
     uncut_block_sad(src, &block)
 }
 
-// The SAD at a vector in eighths up to a ceiling, by the halo and the six-tap filter.
-fn filtered_sad(plane: &[u8], s: Site, src: &[u8], eighths: Mv, ceiling: u32) -> Ceiled
+// The macroblock filtered from its halo by a filter set.
+fn filtered_mb(halo: [u8; 441], mx: u32, my: u32, set: FilterSet) -> FilteredMb
+    ensures { λ r. ⌜ FilterIs (firstOf (filterLines mx my) (filteredMb (tapsOf set) mx my halo)) 256 (r .answer) (r .block) ⌝ }
+{
+    match set {
+        FilterSet::Sixtap => sixtap_mb_luma(halo, mx, my),
+        FilterSet::Bilinear => bilinear_mb_luma(halo, mx, my),
+    }
+}
+
+// The SAD at a vector in eighths up to a ceiling, by the halo and the filter of a set.
+fn filtered_sad(
+    plane: &[u8],
+    s: Site,
+    src: &[u8],
+    eighths: Mv,
+    ceiling: u32,
+    set: FilterSet,
+) -> Ceiled
     requires { ⌜ Ready (now plane) s (now src) ⌝ }
-    ensures { λ r. ⌜ CeiledIs (rowSad (now (src .entry)) (predictedFrom (now (plane .entry)) s eighths)) 16 ceiling r ⌝ }
+    ensures { λ r. ⌜ CeiledIs (rowSad (now (src .entry)) (predictedFrom (tapsOf set) (now (plane .entry)) s eighths)) 16 ceiling r ⌝ }
 {
     let x = 16 * s.column;
     let y = 16 * s.row;
     let fetched = fetch_luma_mb_halo(plane, s.stride, s.width, s.height, x, y, eighths);
     let halo = fetched.halo;
-    let filtered = sixtap_mb_luma(halo, fraction(eighths.col), fraction(eighths.row));
+    let filtered = filtered_mb(halo, fraction(eighths.col), fraction(eighths.row), set);
     block_sad(src, &filtered.block, ceiling)
 }
 
-// The SAD at any vector up to a ceiling, by a fetch: without fractions the block is copied, else filtered. It may lie anywhere.
-pub(crate) fn any_sad(plane: &[u8], s: Site, src: &[u8], mv: Mv, ceiling: u32) -> Ceiled
+// The SAD at any vector up to a ceiling, by a fetch: without fractions the block is copied, else filtered by a filter set. It may lie
+// anywhere.
+pub(crate) fn any_sad(
+    plane: &[u8],
+    s: Site,
+    src: &[u8],
+    mv: Mv,
+    ceiling: u32,
+    set: FilterSet,
+) -> Ceiled
     requires { ⌜ Ready (now plane) s (now src) ⌝ }
-    ensures { λ r. ⌜ CeiledIs (costRow (now (plane .entry)) s (now (src .entry)) mv) 16 ceiling r ⌝ }
+    ensures { λ r. ⌜ CeiledIs (costRow (tapsOf set) (now (plane .entry)) s (now (src .entry)) mv) 16 ceiling r ⌝ }
 {
     let eighths = stored_luma_mv(mv);
     if fraction(eighths.col) == 0 {
@@ -188,7 +220,7 @@ pub(crate) fn any_sad(plane: &[u8], s: Site, src: &[u8], mv: Mv, ceiling: u32) -
             return fetched_sad(plane, s, src, eighths, ceiling);
         }
     }
-    filtered_sad(plane, s, src, eighths, ceiling)
+    filtered_sad(plane, s, src, eighths, ceiling, set)
 }
 
 // The first coordinate of a macroblock moved by the whole offset of a component in eighths, plus 4096.
@@ -231,13 +263,13 @@ fn inside_at(plane: &[u8], s: Site, eighths: Mv) -> usize
 pub(crate) fn whole_sad(plane: &[u8], s: Site, src: &[u8], mv: Mv, ceiling: u32) -> Ceiled
     requires { ⌜ Ready (now plane) s (now src) ⌝ }
     requires { ⌜ Copied mv ⌝ }
-    ensures { λ r. ⌜ CeiledIs (costRow (now (plane .entry)) s (now (src .entry)) mv) 16 ceiling r ⌝ }
+    ensures { λ r. ⌜ CeiledIs (costRow sixtap (now (plane .entry)) s (now (src .entry)) mv) 16 ceiling r ⌝ }
 {
     let at = inside_at(plane, s, stored_luma_mv(mv));
     if 0 < at {
         return parted(ceiling, rows_up_to(src, plane, at - 1, s.stride, ceiling));
     }
-    let read = any_sad(plane, s, src, mv, ceiling);
+    let read = any_sad(plane, s, src, mv, ceiling, FilterSet::Sixtap);
     Ceiled {
         sad: read.sad,
         rows: read.rows,
@@ -259,9 +291,9 @@ pub(crate) fn uncut_whole_sad(plane: &[u8], s: Site, src: &[u8], mv: Mv) -> u32
 }
 
 // The SAD at any vector, not cut short.
-pub(crate) fn uncut_any_sad(plane: &[u8], s: Site, src: &[u8], mv: Mv) -> u32
+pub(crate) fn uncut_any_sad(plane: &[u8], s: Site, src: &[u8], mv: Mv, set: FilterSet) -> u32
     requires { ⌜ Ready (now plane) s (now src) ⌝ }
-    ensures { λ r. ⌜ r ≡ costAt (now (plane .entry)) s (now (src .entry)) mv ⌝ }
+    ensures { λ r. ⌜ r ≡ costBy (tapsOf set) (now (plane .entry)) s (now (src .entry)) mv ⌝ }
 {
     let eighths = stored_luma_mv(mv);
     if fraction(eighths.col) == 0 {
@@ -269,6 +301,6 @@ pub(crate) fn uncut_any_sad(plane: &[u8], s: Site, src: &[u8], mv: Mv) -> u32
             return uncut_whole_sad(plane, s, src, mv);
         }
     }
-    let read = any_sad(plane, s, src, mv, NO_CEILING);
+    let read = any_sad(plane, s, src, mv, NO_CEILING, set);
     read.sad
 }

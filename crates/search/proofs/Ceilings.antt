@@ -17,15 +17,16 @@ use Rattle.laws.proofs.Best.{bestUpTo, cut-short-same as best-same}
 use Rattle.prediction.specs.declared.motion_vector.Mv.{Mv}
 use Rattle.prediction.specs.declared.ceiling.Ceiled.{Ceiled}
 use Rattle.prediction.specs.Ceiled.{CeiledIs}
+use Rattle.prediction.specs.Filter.{FilterRows}
 use Rattle.prediction.proofs.Ceilings.{lesser}
 use Rattle.search.specs.declared.Site.{Site}
 use Rattle.search.specs.declared.DiamondResult.{DiamondResult}
 use Rattle.search.specs.declared.SearchResult.{SearchResult}
-use Rattle.search.specs.Sad.{sad16, rowSad, costOf}
+use Rattle.search.specs.Sad.{sad16, rowSad, costIn}
 use Rattle.search.specs.Search.{gridded, sameMv, stepped, measured, tried, counted, roundOf, descend, startAt, diamond, rasterOf, refine}
-use Rattle.search.specs.Internal.{planeOf, costAt, costRow}
+use Rattle.search.specs.Internal.{planeOf, costBy, costRow}
 use Rattle.search.proofs.Rows.{sad-rows}
-use Rattle.search.proofs.SadLaws.{sad-most, cost-most}
+use Rattle.search.proofs.SadLaws.{sad-most, cost-most-in}
 
 -- at 65281 or more the value is the macroblock's SAD, and all 16 rows are measured
 pub no-ceiling : (src block : List ℕ) (ceiling : ℕ) → ((i : ℕ) → getD src i 0 < 256) → ((i : ℕ) → getD block i 0 < 256) → 65281 ≤ ceiling
@@ -35,17 +36,17 @@ no-ceiling src block ceiling s b h =
     (whole (rowSad src block) 16 ceiling l ∙ sym (sad-rows src block), all-rows (rowSad src block) 16 ceiling l)
 
 -- what a search reads of a vector: the lesser of its cost and the ceiling
-pub cost-read : (bytes : List ℕ) (s : Site) (src : List ℕ) (v : Mv) (ceiling : ℕ) (r : Ceiled) → CeiledIs (costRow bytes s src v) 16 ceiling r
-    → r .sad ≡ min (costAt bytes s src v) ceiling
-unfolding costOf
-cost-read bytes s src v ceiling r i =
-    lesser (costRow bytes s src v) 16 ceiling r i ∙ ap (λ (n : ℕ). min n ceiling) (sym (sad-rows src _))
+pub cost-read : (set : FilterRows) (bytes : List ℕ) (s : Site) (src : List ℕ) (v : Mv) (ceiling : ℕ) (r : Ceiled) → CeiledIs (costRow set bytes s src v) 16 ceiling r
+    → r .sad ≡ min (costBy set bytes s src v) ceiling
+unfolding costIn
+cost-read set bytes s src v ceiling r i =
+    lesser (costRow set bytes s src v) 16 ceiling r i ∙ ap (λ (n : ℕ). min n ceiling) (sym (sad-rows src _))
 
 -- at 65281 or more that is the cost
-pub cost-whole : (bytes : List ℕ) (s : Site) (src : List ℕ) (v : Mv) (ceiling : ℕ) (r : Ceiled) → ((i : ℕ) → getD src i 0 < 256) → 65281 ≤ ceiling
-    → CeiledIs (costRow bytes s src v) 16 ceiling r → r .sad ≡ costAt bytes s src v
-cost-whole bytes s src v ceiling r b h i =
-    omega (arith, cost-read bytes s src v ceiling r i, cost-most (planeOf bytes s) (s .column) (s .row) src v b)
+pub cost-whole : (set : FilterRows) (bytes : List ℕ) (s : Site) (src : List ℕ) (v : Mv) (ceiling : ℕ) (r : Ceiled) → ((i : ℕ) → getD src i 0 < 256) → 65281 ≤ ceiling
+    → CeiledIs (costRow set bytes s src v) 16 ceiling r → r .sad ≡ costBy set bytes s src v
+cost-whole set bytes s src v ceiling r b h i =
+    omega (arith, cost-read set bytes s src v ceiling r i, cost-most-in set (planeOf bytes s) (s .column) (s .row) src v b)
 
 -- the diamond cut short: a neighbour is read up to the best SAD, the start up to 65281
 abbrev pub triedUpTo : (Mv → ℕ) → ℤ → ℤ → DiamondResult → DiamondResult

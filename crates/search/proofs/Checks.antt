@@ -17,14 +17,15 @@ use Rattle.search.proofs.SadAnswer.{the-type}
 use Rattle.search.proofs.Accepted.{also-refused, also-accepted}
 use Rattle.search.proofs.Grid.{measured-whole, whole-copied}
 
-pub still-refused : (ls : List Line) (x : ℕ) (a : SadAnswer) → OneOf (1 ∷ 2 ∷ 3 ∷ 4 ∷ 5 ∷ []) (tagOf the-type a) → sadOutcome a ≡ firstOf ls 0
+pub still-refused : (ls : List Line) (x : ℕ) (a : SadAnswer) → OneOf (1 ∷ 2 ∷ 3 ∷ 4 ∷ 5 ∷ 6 ∷ []) (tagOf the-type a) → sadOutcome a ≡ firstOf ls 0
     → sadOutcome a ≡ firstOf ls x
-still-refused ls x (sad.Sad n) k e = absurd (miss (1 ∷ 2 ∷ 3 ∷ 4 ∷ 5 ∷ []) 0 tt k)
+still-refused ls x (sad.Sad n) k e = absurd (miss (1 ∷ 2 ∷ 3 ∷ 4 ∷ 5 ∷ 6 ∷ []) 0 tt k)
 still-refused ls x sad.BadSize k e = also-refused ls 0 x 8 [] (sym e)
 still-refused ls x sad.ShortPlane k e = also-refused ls 0 x 9 [] (sym e)
 still-refused ls x sad.BadMacroblock k e = also-refused ls 0 x 10 [] (sym e)
 still-refused ls x sad.OutOfRange k e = also-refused ls 0 x 11 [] (sym e)
 still-refused ls x sad.OffGrid k e = also-refused ls 0 x 12 [] (sym e)
+still-refused ls x sad.BadVersion k e = also-refused ls 0 x 23 [] (sym e)
 
 -- a macroblock's site by its numbers
 abbrev pub site : (stride width height column row : ℕ) → Site

@@ -10,3 +10,4 @@ pub mod Steps
 pub mod Luma
 pub mod Refine
 pub mod Numbers
+pub mod Versions

@@ -1,5 +1,5 @@
 -- The SAD of a macroblock: its bound, and the ways in which code finds it. Assumes nothing.
-use mathlib.Core.Path.{_≡_, sym, ap}
+use mathlib.Core.Path.{_≡_, sym, ap, _∙_}
 use mathlib.Core.Bool.{false}
 use mathlib.Core.List.{List}
 use Prim.Native.Nat.{ℕ, _+_, _-_, _*_, _/_, _%_, _≤_, _<_, min}
@@ -16,18 +16,19 @@ use Rattle.laws.proofs.Sums.{sum-same, sum-most}
 use Rattle.laws.specs.Outcome.{firstOf}
 use Rattle.prediction.specs.declared.motion_vector.Mv.{Mv}
 use Rattle.prediction.specs.Samples.{distance}
-use Rattle.prediction.specs.Vector.{wholeOf, fractionOf}
+use Rattle.prediction.specs.Vector.{wholeOf, fractionOf, storedMv}
 use Rattle.prediction.specs.Plane.{Samples, Plane, sampleAt}
-use Rattle.prediction.specs.Filter.{sixtap}
+use Rattle.prediction.specs.Filter.{FilterRows, sixtap}
 use Rattle.prediction.specs.Prediction.{squareOf, macroblockOf, haloOf, offsetBy, predictedMb, filteredMb}
 use Rattle.prediction.specs.Refusals.{badOrigin, blockOf}
 use Rattle.prediction.specs.Internal.{rowApart}
 use Rattle.fetch.specs.Refusals.{fetchLines}
-use Rattle.sixtap.specs.Refusals.{filterLines}
-use Rattle.sixtap.proofs.Laws.{square-at, predicted-byte, filtered-halo, whole-copy, sample-byte}
+use Rattle.filters.specs.Sets.{Identity}
+use Rattle.filters.specs.Refusals.{filterLines}
+use Rattle.filters.proofs.Laws.{square-at, predicted-byte, filtered-halo, whole-copy, sample-byte}
 use Rattle.search.specs.declared.Site.{Site}
-use Rattle.search.specs.Sad.{sad16, rowSad, costOf}
-use Rattle.search.specs.Internal.{planeOf, copiedAt, predictedFrom, Ready, Inside}
+use Rattle.search.specs.Sad.{sad16, rowSad, costIn, costOf}
+use Rattle.search.specs.Internal.{planeOf, costBy, copiedAt, predictedFrom, Ready, Copied, Inside}
 use Rattle.search.proofs.Accepted.{placed}
 
 -- one SAD of samples is at most 65280
@@ -46,16 +47,30 @@ square-byte at h i = go (decLt i 256)
     go (yes l) = rw (square-at 16 (pos 0) (pos 0) at i l) (h _ _)
     go (no f) = rw (List·getD-eq-default (macroblockOf at) 0 {n = i} (omega (arith, long at))) (omega arith)
 
-pub cost-most : (plane : Plane) (column row : ℕ) (src : List ℕ) (v : Mv) → ((i : ℕ) → getD src i 0 < 256) → costOf plane column row src v ≤ 65280
-unfolding costOf predictedMb
-cost-most plane column row src v h =
-    sad-most src _ h (square-byte _ (λ x y. predicted-byte sixtap _ _ _ x y))
+pub cost-most-in : (set : FilterRows) (plane : Plane) (column row : ℕ) (src : List ℕ) (v : Mv) → ((i : ℕ) → getD src i 0 < 256)
+    → costIn set plane column row src v ≤ 65280
+unfolding costIn predictedMb
+cost-most-in set plane column row src v h =
+    sad-most src _ h (square-byte _ (λ x y. predicted-byte set _ _ _ x y))
 
--- without fractions the prediction is a copy
-pub copied-is : (bytes : List ℕ) (s : Site) (v : Mv) → fractionOf (v .row) ≡ 0 → fractionOf (v .col) ≡ 0 → ((k : ℕ) → getD bytes k 0 < 256)
-    → copiedAt bytes s v ≡ predictedFrom bytes s v
+pub cost-most : (plane : Plane) (column row : ℕ) (src : List ℕ) (v : Mv) → ((i : ℕ) → getD src i 0 < 256) → costOf plane column row src v ≤ 65280
+cost-most = cost-most-in sixtap
+
+-- without fractions the prediction is a copy, by every set whose row 0 is the identity
+pub copied-mb : (set : FilterRows) → Identity set → (p : Plane) (x y : ℕ) (v : Mv) → fractionOf (v .row) ≡ 0 → fractionOf (v .col) ≡ 0
+    → ((k : ℕ) → getD (p .bytes) k 0 < 256) → macroblockOf (offsetBy x y v (sampleAt p)) ≡ predictedMb set (sampleAt p) x y v
 unfolding predictedMb
-copied-is bytes s v row col h = rw (row, col) (sym (whole-copy _ (λ x y. sample-byte (planeOf bytes s) h _ _)))
+copied-mb set whole p x y v row col h = rw (row, col) (sym (whole-copy set whole _ (λ i j. sample-byte p h _ _)))
+
+pub copied-is : (set : FilterRows) → Identity set → (bytes : List ℕ) (s : Site) (v : Mv) → fractionOf (v .row) ≡ 0 → fractionOf (v .col) ≡ 0
+    → ((k : ℕ) → getD bytes k 0 < 256) → copiedAt bytes s v ≡ predictedFrom set bytes s v
+copied-is set whole bytes s v = copied-mb set whole (planeOf bytes s) (16 * s .column) (16 * s .row) v
+
+-- and the cost is the SAD of the copied block
+pub cost-copied : (set : FilterRows) → Identity set → (bytes : List ℕ) (s : Site) (src : List ℕ) (v : Mv) → Copied v → ((k : ℕ) → getD bytes k 0 < 256)
+    → sad16 src (copiedAt bytes s (storedMv v)) ≡ costBy set bytes s src v
+unfolding costIn
+cost-copied set whole bytes s src v c h = ap (sad16 src) (copied-is set whole bytes s (storedMv v) (c .row) (c .col) h)
 
 -- the sixteen coordinates of a displaced macroblock; inside, nothing is cut
 coordinate : (mb k r : ℕ) (v : ℤ) → r + below (wholeOf v) ≡ 16 * mb + 4096 + above (wholeOf v) → 4096 ≤ r
@@ -134,7 +149,7 @@ filtered-is x y n a block e = simp (le-ltb 7 (fractionOf x) (small x), le-ltb 7 
     small z = omega (arith, fraction-small z)
 
 -- the filtered halo is the prediction
-pub predicted-is : (bytes : List ℕ) (s : Site) (v : Mv)
-    → filteredMb sixtap (fractionOf (v .col)) (fractionOf (v .row)) (haloOf (offsetBy (16 * s .column) (16 * s .row) v (sampleAt (planeOf bytes s)))) ≡ predictedFrom bytes s v
+pub predicted-is : (set : FilterRows) (bytes : List ℕ) (s : Site) (v : Mv)
+    → filteredMb set (fractionOf (v .col)) (fractionOf (v .row)) (haloOf (offsetBy (16 * s .column) (16 * s .row) v (sampleAt (planeOf bytes s)))) ≡ predictedFrom set bytes s v
 unfolding predictedMb
-predicted-is bytes s v = filtered-halo sixtap _ _ _
+predicted-is set bytes s v = filtered-halo set _ _ _

@@ -11,14 +11,14 @@ use Rattle.prediction.specs.declared.motion_vector.Mv.{Mv}
 use Rattle.prediction.specs.Samples.{distance}
 use Rattle.prediction.specs.Vector.{doubled, storedMv, fractionOf}
 use Rattle.prediction.specs.Plane.{Plane, lumaPlane, sampleAt}
-use Rattle.prediction.specs.Filter.{sixtap}
+use Rattle.prediction.specs.Filter.{FilterRows}
 use Rattle.prediction.specs.Prediction.{macroblockOf, offsetBy, predictedMb}
 use Rattle.prediction.specs.Refusals.{badSize, shortPlane}
 use Rattle.prediction.specs.Internal.{rowApart}
 use Rattle.search.specs.declared.Site.{Site}
 use Rattle.search.specs.declared.DiamondResult.{DiamondResult}
 use Rattle.search.specs.Refusals.{badMacroblock}
-use Rattle.search.specs.Sad.{rowSad, costOf}
+use Rattle.search.specs.Sad.{rowSad, costIn, costOf}
 
 -- the reference plane of a site, and the cost of a vector there
 abbrev pub planeOf : List ℕ → Site → Plane
@@ -27,16 +27,20 @@ planeOf bytes s = lumaPlane bytes (s .stride) (s .width) (s .height)
 abbrev pub costAt : List ℕ → Site → List ℕ → Mv → ℕ
 costAt bytes s src = costOf (planeOf bytes s) (s .column) (s .row) src
 
+-- by a filter set
+abbrev pub costBy : FilterRows → List ℕ → Site → List ℕ → Mv → ℕ
+costBy set bytes s src = costIn set (planeOf bytes s) (s .column) (s .row) src
+
 -- the block at a vector in eighths, copied and predicted
 abbrev pub copiedAt : List ℕ → Site → Mv → List ℕ
 copiedAt bytes s v = macroblockOf (offsetBy (16 * s .column) (16 * s .row) v (sampleAt (planeOf bytes s)))
 
-abbrev pub predictedFrom : List ℕ → Site → Mv → List ℕ
-predictedFrom bytes s v = predictedMb sixtap (sampleAt (planeOf bytes s)) (16 * s .column) (16 * s .row) v
+abbrev pub predictedFrom : FilterRows → List ℕ → Site → Mv → List ℕ
+predictedFrom set bytes s v = predictedMb set (sampleAt (planeOf bytes s)) (16 * s .column) (16 * s .row) v
 
 -- row j of the cost of a vector at a site
-abbrev pub costRow : List ℕ → Site → List ℕ → Mv → ℕ → ℕ
-costRow bytes s src v = rowSad src (predictedFrom bytes s (storedMv v))
+abbrev pub costRow : FilterRows → List ℕ → Site → List ℕ → Mv → ℕ → ℕ
+costRow set bytes s src v = rowSad src (predictedFrom set bytes s (storedMv v))
 
 -- none of 8, 9 and 10 applies, and the source is a block
 pub record Ready (bytes : List ℕ) (s : Site) (src : List ℕ) : Type 0 where

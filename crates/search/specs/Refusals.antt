@@ -1,4 +1,5 @@
--- Document 01's numbers of refusal 8 to 12 for the search and SAD calls, and the number of each case of an answer. Assumes nothing.
+-- Document 01's numbers of refusal 8 to 12 for the search and SAD calls, document 02's 23 before them where a call takes a version, and the
+-- number of each case of an answer. Assumes nothing.
 use mathlib.Core.Bool.{Bool, _||_}
 use mathlib.Core.List.{List, [], _∷_, _++_}
 use Prim.Native.Nat.{ℕ, _%_}
@@ -9,7 +10,7 @@ use Rattle.laws.specs.Signed.{minus}
 use Rattle.laws.specs.Outcome.{Outcome, refused, accepted, Line, line}
 use Rattle.prediction.specs.declared.motion_vector.Mv.{Mv}
 use Rattle.prediction.specs.Plane.{Plane}
-use Rattle.prediction.specs.Refusals.{badSize, shortPlane}
+use Rattle.prediction.specs.Refusals.{badSize, shortPlane, versionLines}
 use Rattle.search.specs.declared.SearchResult.{SearchResult}
 use Rattle.search.specs.declared.DiamondResult.{DiamondResult}
 use Rattle.search.specs.declared.SadAnswer.{SadAnswer}
@@ -41,13 +42,21 @@ offGrid n v = notMultiple n (v .row) || notMultiple n (v .col)
 abbrev pub placeLines : Plane → ℕ → ℕ → List Line
 placeLines p column row = line 8 (badSize p) [] ∷ line 9 (shortPlane p) [] ∷ line 10 (badMacroblock column row) [] ∷ []
 
--- the SAD at any vector: 8 to 11
+-- a vector: 8 to 11
 abbrev pub vectorLines : Plane → ℕ → ℕ → Mv → List Line
 vectorLines p column row v = placeLines p column row ++ (line 11 (outOfRange v) [] ∷ [])
 
--- the SAD at a whole vector and the refinements: 8 to 12, on a grid of n
+-- the SAD at a whole vector, and a vector on a grid of n: 8 to 12
 abbrev pub gridLines : ℕ → Plane → ℕ → ℕ → Mv → List Line
 gridLines n p column row v = vectorLines p column row v ++ (line 12 (offGrid n v) [] ∷ [])
+
+-- the SAD at any vector: 23, then 8 to 11
+abbrev pub anySadLines : ℕ → Plane → ℕ → ℕ → Mv → List Line
+anySadLines version p column row v = versionLines version ++ vectorLines p column row v
+
+-- the refinements: 23, then 8 to 12
+abbrev pub refineLines : ℕ → ℕ → Plane → ℕ → ℕ → Mv → List Line
+refineLines version n p column row v = versionLines version ++ gridLines n p column row v
 
 -- the number and the values of each case of an answer
 abbrev pub sadOutcome : SadAnswer → Outcome ℕ
@@ -57,6 +66,7 @@ sadOutcome sad.ShortPlane = refused 9 []
 sadOutcome sad.BadMacroblock = refused 10 []
 sadOutcome sad.OutOfRange = refused 11 []
 sadOutcome sad.OffGrid = refused 12 []
+sadOutcome sad.BadVersion = refused 23 []
 
 abbrev pub searchOutcome : SearchAnswer → Outcome SearchResult
 searchOutcome (search.Found r) = accepted r
@@ -65,6 +75,7 @@ searchOutcome search.ShortPlane = refused 9 []
 searchOutcome search.BadMacroblock = refused 10 []
 searchOutcome search.OutOfRange = refused 11 []
 searchOutcome search.OffGrid = refused 12 []
+searchOutcome search.BadVersion = refused 23 []
 
 abbrev pub diamondOutcome : DiamondAnswer → Outcome DiamondResult
 diamondOutcome (diamond.Found r) = accepted r

@@ -7,7 +7,7 @@ use Rattle.prediction.specs.declared.motion_vector.Mv.{Mv}
 use Rattle.prediction.specs.Samples.{distance}
 use Rattle.prediction.specs.Vector.{storedMv}
 use Rattle.prediction.specs.Plane.{Plane, sampleAt}
-use Rattle.prediction.specs.Filter.{sixtap}
+use Rattle.prediction.specs.Filter.{FilterRows, sixtap}
 use Rattle.prediction.specs.Prediction.{predictedMb}
 
 -- the SAD of two blocks of 16 by 16 samples
@@ -18,6 +18,10 @@ sad16 src block = sumBelow (λ i. distance (getD src i 0) (getD block i 0)) 256
 unfoldable pub rowSad : List ℕ → List ℕ → ℕ → ℕ
 rowSad src block j = sumBelow (λ k. distance (getD src (j * 16 + k) 0) (getD block (j * 16 + k) 0)) 16
 
--- the SAD of a source block and its prediction at a vector in quarter pixels, for the macroblock at a column and a row
-unfoldable pub costOf : Plane → ℕ → ℕ → List ℕ → Mv → ℕ
-costOf plane column row src v = sad16 src (predictedMb sixtap (sampleAt plane) (16 * column) (16 * row) (storedMv v))
+-- the SAD of a source block and its prediction by a filter set at a vector in quarter pixels, for the macroblock at a column and a row
+unfoldable pub costIn : FilterRows → Plane → ℕ → ℕ → List ℕ → Mv → ℕ
+costIn set plane column row src v = sad16 src (predictedMb set (sampleAt plane) (16 * column) (16 * row) (storedMv v))
+
+-- by the six-tap rows
+abbrev pub costOf : Plane → ℕ → ℕ → List ℕ → Mv → ℕ
+costOf = costIn sixtap

@@ -32,6 +32,7 @@ pub enum SadAnswer {
     BadMacroblock,
     OutOfRange,
     OffGrid,
+    BadVersion,
 }
 
 pub enum SearchAnswer {
@@ -41,6 +42,7 @@ pub enum SearchAnswer {
     BadMacroblock,
     OutOfRange,
     OffGrid,
+    BadVersion,
 }
 
 pub enum DiamondAnswer {

@@ -40,7 +40,7 @@ add-t12 c = search needs
 returns-2 : tie.Need-returns-2
 returns-2 c =
     let i = c .before .before .before .before .before in
-    tried-better _ _ _ _ _ (neighbour-is (i .before .before)) _ (sym (i .before .same-mv .ensures) ∙ i .if1 .left) (cost-read _ _ _ _ _ _ (c .before .before .before .before .whole-sad .ensures)) (c .before .if2 .taken)
+    tried-better _ _ _ _ _ (neighbour-is (i .before .before)) _ (sym (i .before .same-mv .ensures) ∙ i .if1 .left) (cost-read _ _ _ _ _ _ _ (c .before .before .before .before .whole-sad .ensures)) (c .before .if2 .taken)
 
 add-t13 : tie.Need-add-t13
 add-t13 c = search needs
@@ -48,7 +48,7 @@ add-t13 c = search needs
 returns-3 : tie.Need-returns-3
 returns-3 c =
     let i = c .before .before .before .before .before in
-    tried-worse _ _ _ _ _ (neighbour-is (i .before .before)) _ (sym (i .before .same-mv .ensures) ∙ i .if1 .left) (cost-read _ _ _ _ _ _ (c .before .before .before .before .whole-sad .ensures)) (c .before .if2 .left)
+    tried-worse _ _ _ _ _ (neighbour-is (i .before .before)) _ (sym (i .before .same-mv .ensures) ∙ i .if1 .left) (cost-read _ _ _ _ _ _ _ (c .before .before .before .before .whole-sad .ensures)) (c .before .if2 .left)
 
 pub try-at-spec : {M : Type 1} → statement M
 try-at-spec =

@@ -1,12 +1,20 @@
 -- `mb_luma_sad_at_mv` meets its contract. Assumes nothing.
-use mathlib.Core.Path.{ap, _∙_}
+use mathlib.Core.Path.{sym, ap, _∙_}
 use borrow.Author.Needs.{needs}
 use Rattle.laws.specs.Outcome.{accepted}
-use Rattle.search.specs.Internal.{costAt}
-use Rattle.search.proofs.Accepted.{grid-one}
+use Rattle.prediction.specs.declared.motion_comp.FilterSet.{FilterSet}
+use Rattle.prediction.specs.Filter.{tapsOf, rowsFor}
+use Rattle.search.specs.Internal.{costBy}
+use Rattle.search.proofs.Accepted.{hit, pass, grid-one}
 use Rattle.search.proofs.Checks.{still-refused, site, linesOf, ready, counts}
 use Rattle.motion_search.proofs.motion_search.mb_luma_sad_at_mv.Statement.{statement}
 use Rattle.motion_search.proofs.motion_search.mb_luma_sad_at_mv.Tie as tie
+
+bad-version-requires : tie.Need-bad-version-requires
+bad-version-requires c κs = search needs
+
+returns : tie.Need-returns
+returns c = hit _ _ _ (sym (c .before .bad-version .ensures) ∙ c .if1 .taken)
 
 checked-requires : tie.Need-checked-requires
 checked-requires c κs = search needs
@@ -14,27 +22,47 @@ checked-requires c κs = search needs
 enum-told : tie.Need-enum-told
 enum-told c = search needs
 
+filter-set-for-version-requires : tie.Need-filter-set-for-version-requires
+filter-set-for-version-requires c κs = search needs
+
 uncut-any-sad-requires : tie.Need-uncut-any-sad-requires
 uncut-any-sad-requires c κs =
-    let a = c .before .before .before .before .before .args in
-    let e = c .before .before .before .checked in
+    let t = c .before .before in
+    let a = t .before .before .before .before .before .before .args in
+    let e = t .before .before .checked in
     let s = site (a .stride) (a .width) (a .height) (a .mb-col) (a .mb-row) in
-    ready 1 (a .plane .now) s (a .mv) (e .result) _ (e .ensures) (c .before .enum-told .given .1) (a .src-y .now) (search needs)
-
-returns : tie.Need-returns
-returns c =
-    let a = c .before .before .before .before .before .before .args in
-    let e = c .before .before .before .before .checked in
-    let s = site (a .stride) (a .width) (a .height) (a .mb-col) (a .mb-row) in
-    ap accepted (c .uncut-any-sad .ensures)
-    ∙ (rw (grid-one (a .mv)) at (counts 1 (a .plane .now) s (a .mv) (e .result) _ (e .ensures) (c .before .before .enum-told .given .1) (costAt (a .plane .now) s (a .src-y .now) (a .mv))))
+    ready 1 (a .plane .now) s (a .mv) (e .result) _ (e .ensures) (t .enum-told .given .1) (a .src-y .now) (search needs)
 
 returns-2 : tie.Need-returns-2
 returns-2 c =
-    let a = c .before .before .before .args in
+    let f = c .before .before in
+    let t = f .before in
+    let e = t .before .before .checked in
+    let i = t .before .before .before in
+    let a = i .before .before .before .args in
     let s = site (a .stride) (a .width) (a .height) (a .mb-col) (a .mb-row) in
-    rw (grid-one (a .mv)) at (still-refused (linesOf 1 (a .plane .now) s (a .mv)) (costAt (a .plane .now) s (a .src-y .now) (a .mv)) (c .before .checked .result)
-    (c .match .keys2) (c .before .checked .ensures))
+    pass _ _ _ _ (sym (i .before .bad-version .ensures) ∙ i .if1 .left)
+    (ap accepted (c .uncut-any-sad .ensures ∙ ap (λ (set : FilterSet). costBy (tapsOf set) (a .plane .now) s (a .src-y .now) (a .mv)) (f .filter-set-for-version .ensures))
+    ∙ (rw (grid-one (a .mv)) at (counts 1 (a .plane .now) s (a .mv) (e .result) _ (e .ensures) (t .enum-told .given .1) (costBy (rowsFor (a .version)) (a .plane .now) s (a .src-y .now) (a .mv)))))
+
+returns-3 : tie.Need-returns-3
+returns-3 c =
+    let i = c .before .before in
+    let a = i .before .before .before .args in
+    let s = site (a .stride) (a .width) (a .height) (a .mb-col) (a .mb-row) in
+    pass _ _ _ _ (sym (i .before .bad-version .ensures) ∙ i .if1 .left)
+    (rw (grid-one (a .mv)) at (still-refused (linesOf 1 (a .plane .now) s (a .mv)) (costBy (rowsFor (a .version)) (a .plane .now) s (a .src-y .now) (a .mv)) (c .before .checked .result)
+    (c .match .keys2) (c .before .checked .ensures)))
 
 pub mb-luma-sad-at-mv-spec : {M : Type 1} → statement M
-mb-luma-sad-at-mv-spec = tie.close (tie.spec checked-requires enum-told uncut-any-sad-requires returns returns-2)
+mb-luma-sad-at-mv-spec =
+    tie.close
+    (tie.spec
+    bad-version-requires
+    returns
+    checked-requires
+    enum-told
+    filter-set-for-version-requires
+    uncut-any-sad-requires
+    returns-2
+    returns-3)

@@ -1,15 +1,25 @@
 -- `refine_luma` meets its contract. Assumes nothing.
-use mathlib.Core.Path.{sym, ap, _∙_}
+use mathlib.Core.Path.{_≡_, sym, ap, _∙_}
 use mathlib.Core.List.{[]}
 use Prim.Native.Nat.{_*_}
 use borrow.Author.Needs.{needs}
 use Rattle.laws.specs.Outcome.{accepted}
+use Rattle.prediction.specs.declared.motion_comp.FilterSet.{FilterSet}
+use Rattle.prediction.specs.Filter.{tapsOf}
+use Rattle.search.specs.Search.{refine}
 use Rattle.search.specs.Refusals.{sadOutcome}
-use Rattle.search.proofs.Accepted.{also-refused, also-accepted}
+use Rattle.search.specs.Internal.{costBy}
+use Rattle.search.proofs.Accepted.{hit, pass, also-refused, also-accepted}
 use Rattle.search.proofs.Checks.{linesOf, none-applies, ready}
 use Rattle.search.proofs.Refine.{step-room}
 use Rattle.motion_search.proofs.motion_search.refine_luma.Statement.{statement}
 use Rattle.motion_search.proofs.motion_search.refine_luma.Tie as tie
+
+bad-version-requires : tie.Need-bad-version-requires
+bad-version-requires c κs = search needs
+
+returns : tie.Need-returns
+returns c = hit _ _ _ (sym (c .before .bad-version .ensures) ∙ c .if1 .taken)
 
 mul-checked : tie.Need-mul-checked
 mul-checked c = search needs
@@ -20,20 +30,25 @@ checked-requires c κs = search needs
 enum-told : tie.Need-enum-told
 enum-told c = search needs
 
+filter-set-for-version-requires : tie.Need-filter-set-for-version-requires
+filter-set-for-version-requires c κs = search needs
+
 uncut-any-sad-requires : tie.Need-uncut-any-sad-requires
 uncut-any-sad-requires c κs =
-    let s = c .before .before .before .before .before in
+    let t = c .before in
+    let s = t .before .before .before .before .before .before .before in
     let a = s .args in
-    let e = c .before .before .checked in
-    ready (2 * a .step) (a .plane .now) (a .s) (a .center) (e .result) _ (e .ensures) (c .enum-told .given .1) (a .src .now) (s .pre .0)
+    let e = t .before .before .checked in
+    ready (2 * a .step) (a .plane .now) (a .s) (a .center) (e .result) _ (e .ensures) (t .enum-told .given .1) (a .src .now) (s .pre .0)
 
 refine-at-requires : tie.Need-refine-at-requires
 refine-at-requires c κs =
-    let s = c .before .before .before .before .before .before in
+    let t = c .before .before in
+    let s = t .before .before .before .before .before .before .before in
     let a = s .args in
-    let e = c .before .before .before .checked in
-    let k = none-applies (2 * a .step) (a .plane .now) (a .s) (a .center) (e .result) _ (e .ensures) (c .before .enum-told .given .1) in (
-      ready (2 * a .step) (a .plane .now) (a .s) (a .center) (e .result) _ (e .ensures) (c .before .enum-told .given .1) (a .src .now) (s .pre .0),
+    let e = t .before .before .checked in
+    let k = none-applies (2 * a .step) (a .plane .now) (a .s) (a .center) (e .result) _ (e .ensures) (t .enum-told .given .1) in (
+      ready (2 * a .step) (a .plane .now) (a .s) (a .center) (e .result) _ (e .ensures) (t .enum-told .given .1) (a .src .now) (s .pre .0),
       (c .uncut-any-sad .ensures, (s .pre .2, step-room (a .center) (a .step) (s .pre .1) (s .pre .2) (k .1 .1 .1 .0) (k .1 .1 .1 .1 .0))),
     )
 
@@ -52,51 +67,79 @@ enum-told-5 c = search needs
 enum-told-6 : tie.Need-enum-told-6
 enum-told-6 c = search needs
 
-returns : tie.Need-returns
-returns c =
-    let a = c .before .before .before .before .before .before .before .args in
-    let e = c .before .before .before .before .checked in
-    let lines = linesOf (2 * a .step) (a .plane .now) (a .s) (a .center) in
-    ap accepted (c .refine-at .ensures)
-    ∙ also-accepted lines _ (none-applies (2 * a .step) (a .plane .now) (a .s) (a .center) (e .result) _ (e .ensures) (c .before .before .enum-told .given .1))
+enum-told-7 : tie.Need-enum-told-7
+enum-told-7 c = search needs
 
 returns-2 : tie.Need-returns-2
 returns-2 c =
-    let a = c .before .before .before .before .before .args in
-    also-refused (linesOf (2 * a .step) (a .plane .now) (a .s) (a .center)) 0 _ 8 []
-    (sym (c .before .before .checked .ensures) ∙ ap sadOutcome (c .enum-told2 .given .1))
+    let f = c .before .before in
+    let t = f .before in
+    let e = t .before .before .checked in
+    let i = t .before .before .before in
+    let a = i .before .before .before .before .args in
+    pass _ _ _ _ (sym (i .before .bad-version .ensures) ∙ i .if1 .left)
+    (ap accepted (c .refine-at .ensures ∙ ap (λ (set : FilterSet). refine (costBy (tapsOf set) (a .plane .now) (a .s) (a .src .now)) (a .step) (a .center)) (f .filter-set-for-version .ensures))
+    ∙ also-accepted (linesOf (2 * a .step) (a .plane .now) (a .s) (a .center)) _
+    (none-applies (2 * a .step) (a .plane .now) (a .s) (a .center) (e .result) _ (e .ensures) (t .enum-told .given .1)))
 
 returns-3 : tie.Need-returns-3
 returns-3 c =
-    let a = c .before .before .before .before .before .args in
-    also-refused (linesOf (2 * a .step) (a .plane .now) (a .s) (a .center)) 0 _ 9 []
-    (sym (c .before .before .checked .ensures) ∙ ap sadOutcome (c .enum-told3 .given .1))
+    let i = c .before .before .before in
+    let a = i .before .before .before .before .args in
+    pass _ _ _ _ (sym (i .before .bad-version .ensures) ∙ i .if1 .left)
+    (also-refused (linesOf (2 * a .step) (a .plane .now) (a .s) (a .center)) 0 _ 8 []
+    (sym (c .before .before .checked .ensures) ∙ ap sadOutcome (c .enum-told2 .given .1)))
 
 returns-4 : tie.Need-returns-4
 returns-4 c =
-    let a = c .before .before .before .before .before .args in
-    also-refused (linesOf (2 * a .step) (a .plane .now) (a .s) (a .center)) 0 _ 10 []
-    (sym (c .before .before .checked .ensures) ∙ ap sadOutcome (c .enum-told4 .given .1))
+    let i = c .before .before .before in
+    let a = i .before .before .before .before .args in
+    pass _ _ _ _ (sym (i .before .bad-version .ensures) ∙ i .if1 .left)
+    (also-refused (linesOf (2 * a .step) (a .plane .now) (a .s) (a .center)) 0 _ 9 []
+    (sym (c .before .before .checked .ensures) ∙ ap sadOutcome (c .enum-told3 .given .1)))
 
 returns-5 : tie.Need-returns-5
 returns-5 c =
-    let a = c .before .before .before .before .before .args in
-    also-refused (linesOf (2 * a .step) (a .plane .now) (a .s) (a .center)) 0 _ 11 []
-    (sym (c .before .before .checked .ensures) ∙ ap sadOutcome (c .enum-told5 .given .1))
+    let i = c .before .before .before in
+    let a = i .before .before .before .before .args in
+    pass _ _ _ _ (sym (i .before .bad-version .ensures) ∙ i .if1 .left)
+    (also-refused (linesOf (2 * a .step) (a .plane .now) (a .s) (a .center)) 0 _ 10 []
+    (sym (c .before .before .checked .ensures) ∙ ap sadOutcome (c .enum-told4 .given .1)))
 
 returns-6 : tie.Need-returns-6
 returns-6 c =
-    let a = c .before .before .before .before .before .args in
-    also-refused (linesOf (2 * a .step) (a .plane .now) (a .s) (a .center)) 0 _ 12 []
-    (sym (c .before .before .checked .ensures) ∙ ap sadOutcome (c .enum-told6 .given .1))
+    let i = c .before .before .before in
+    let a = i .before .before .before .before .args in
+    pass _ _ _ _ (sym (i .before .bad-version .ensures) ∙ i .if1 .left)
+    (also-refused (linesOf (2 * a .step) (a .plane .now) (a .s) (a .center)) 0 _ 11 []
+    (sym (c .before .before .checked .ensures) ∙ ap sadOutcome (c .enum-told5 .given .1)))
+
+returns-7 : tie.Need-returns-7
+returns-7 c =
+    let i = c .before .before .before in
+    let a = i .before .before .before .before .args in
+    pass _ _ _ _ (sym (i .before .bad-version .ensures) ∙ i .if1 .left)
+    (also-refused (linesOf (2 * a .step) (a .plane .now) (a .s) (a .center)) 0 _ 12 []
+    (sym (c .before .before .checked .ensures) ∙ ap sadOutcome (c .enum-told6 .given .1)))
+
+returns-8 : tie.Need-returns-8
+returns-8 c =
+    let i = c .before .before .before in
+    let a = i .before .before .before .before .args in
+    pass _ _ _ _ (sym (i .before .bad-version .ensures) ∙ i .if1 .left)
+    (also-refused (linesOf (2 * a .step) (a .plane .now) (a .s) (a .center)) 0 _ 23 []
+    (sym (c .before .before .checked .ensures) ∙ ap sadOutcome (c .enum-told7 .given .1)))
 
 pub refine-luma-spec : {M : Type 1} → statement M
 refine-luma-spec =
     tie.close
     (tie.spec
+    bad-version-requires
+    returns
     mul-checked
     checked-requires
     enum-told
+    filter-set-for-version-requires
     uncut-any-sad-requires
     refine-at-requires
     enum-told-2
@@ -104,9 +147,11 @@ refine-luma-spec =
     enum-told-4
     enum-told-5
     enum-told-6
-    returns
+    enum-told-7
     returns-2
     returns-3
     returns-4
     returns-5
-    returns-6)
+    returns-6
+    returns-7
+    returns-8)

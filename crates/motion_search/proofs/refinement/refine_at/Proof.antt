@@ -6,9 +6,10 @@ use borrow.Author.Needs.{needs}
 use Rattle.laws.specs.Best.{bestOf}
 use Rattle.laws.proofs.Best.{best-none, best-more}
 use Rattle.prediction.specs.declared.motion_vector.Mv.{Mv}
+use Rattle.prediction.specs.Filter.{tapsOf}
 use Rattle.search.specs.declared.SearchResult.{SearchResult}
 use Rattle.search.specs.Search.{rasterOf, measuredAt, refine}
-use Rattle.search.specs.Internal.{costAt}
+use Rattle.search.specs.Internal.{costBy}
 use Rattle.motion_search.proofs.refinement.refine_at.Statement.{statement}
 use Rattle.motion_search.proofs.refinement.refine_at.Tie as tie
 
@@ -16,11 +17,11 @@ found-is : (cost : Mv → ℕ) {b : SearchResult} {v : Mv} → b .sad ≡ cost (
 found-is cost {b} {v} p q = rw (p, q)
 
 abbrev Inv-loop : tie.InvT-loop
-Inv-loop plane s src step center best₀ k₀ best k =
-    (k ≤ 8) × (best .mv ≡ bestOf (costAt plane s src) center (rasterOf center step) k) × (best .sad ≡ costAt plane s src (best .mv))
+Inv-loop plane s src step set center best₀ k₀ best k =
+    (k ≤ 8) × (best .mv ≡ bestOf (costBy (tapsOf set) plane s src) center (rasterOf center step) k) × (best .sad ≡ costBy (tapsOf set) plane s src (best .mv))
 
 abbrev μ-loop : tie.MeasureT-loop
-μ-loop plane s src step center best₀ k₀ best k = 8 - k
+μ-loop plane s src step set center best₀ k₀ best k = 8 - k
 
 loop-holds : tie.Need-loop-holds Inv-loop μ-loop
 loop-holds c = (omega arith, best-none _ _ _, c .before .before .before .pre .1 .0)
@@ -51,7 +52,7 @@ returns c =
     let s = c .before .before .before .before .before .args in
     let i = c .before .loop .inv in
     let k-is : c .before .loop .k ≡ 8 = omega arith in
-    found-is (costAt (s .plane .now) (s .s) (s .src .now)) (i .2) (rw k-is at (i .1))
+    found-is (costBy (tapsOf (s .set)) (s .plane .now) (s .s) (s .src .now)) (i .2) (rw k-is at (i .1))
 
 pub refine-at-spec : {M : Type 1} → statement M
 refine-at-spec =

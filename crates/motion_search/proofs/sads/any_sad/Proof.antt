@@ -7,7 +7,9 @@ use mir.Val.{SFits}
 use mir.Facts.{toZ-ofZ}
 use Rattle.prediction.specs.declared.motion_vector.Mv.{Mv}
 use Rattle.prediction.specs.Vector.{storedMv, fractionOf}
+use Rattle.prediction.specs.Filter.{tapsOf}
 use Rattle.search.proofs.SadLaws.{copied-is}
+use Rattle.search.proofs.Versions.{taps-whole}
 use Rattle.motion_search.proofs.sads.any_sad.Statement.{statement}
 use Rattle.motion_search.proofs.sads.any_sad.Tie as tie
 
@@ -33,7 +35,7 @@ returns c =
     let b = c .before .before .before .struct-told2 .given in
     let fc : SFits w16 (e .stored-luma-mv .result .col) = search needs in
     let fr : SFits w16 (e .stored-luma-mv .result .row) = search needs in
-    rw (copied-is (s .args .plane .now) (s .args .s) (storedMv (s .args .mv))
+    rw (copied-is (tapsOf (s .args .set)) (taps-whole (s .args .set)) (s .args .plane .now) (s .args .s) (storedMv (s .args .mv))
     (ap (λ (v : Mv). fractionOf (v .row)) (sym (e .stored-luma-mv .ensures)) ∙ ap fractionOf (sym (toZ-ofZ fr)) ∙ sym (c .before .before .fraction2 .ensures) ∙ c .before .if2 .taken)
     (ap (λ (v : Mv). fractionOf (v .col)) (sym (e .stored-luma-mv .ensures)) ∙ ap fractionOf (sym (toZ-ofZ fc)) ∙ sym (f .fraction .ensures) ∙ c .before .before .before .before .if1 .taken)
     (λ k. omega (arith, e .before .before .shared-slice-known .given k)))

@@ -6,6 +6,7 @@ use mir.Syntax.{w16}
 use mir.Val.{SFits}
 use mir.Facts.{toZ-ofZ}
 use Rattle.prediction.specs.Vector.{fractionOf}
+use Rattle.prediction.specs.Filter.{tapsOf}
 use Rattle.search.proofs.Accepted.{placed}
 use Rattle.search.proofs.SadLaws.{fetched-is, filtered-is, predicted-is}
 use Rattle.motion_search.proofs.sads.filtered_sad.Statement.{statement}
@@ -26,8 +27,8 @@ fraction-requires c κs = search needs
 fraction-requires-2 : tie.Need-fraction-requires-2
 fraction-requires-2 c κs = search needs
 
-sixtap-mb-luma-requires : tie.Need-sixtap-mb-luma-requires
-sixtap-mb-luma-requires c κs = search needs
+filtered-mb-requires : tie.Need-filtered-mb-requires
+filtered-mb-requires c κs = search needs
 
 block-sad-requires : tie.Need-block-sad-requires
 block-sad-requires c κs = search needs
@@ -44,8 +45,8 @@ returns c =
     let mx = m .before .before .before .fraction .ensures ∙ ap fractionOf (toZ-ofZ fc) in
     let my = m .before .fraction2 .ensures ∙ ap fractionOf (toZ-ofZ fr) in
     let halo = fetched-is _ _ _ (s .pre) 441 _ _ (h .fetch-luma-mb-halo .ensures .beside) in
-    rw (filtered-is (s .args .eighths .col) (s .args .eighths .row) 256 _ _ (rw (mx, my, halo) at (m .sixtap-mb-luma .ensures .beside))
-    ∙ predicted-is (s .args .plane .now) (s .args .s) (s .args .eighths))
+    rw (filtered-is (s .args .eighths .col) (s .args .eighths .row) 256 _ _ (rw (mx, my, halo) at (m .filtered-mb .ensures .beside))
+    ∙ predicted-is (tapsOf (s .args .set)) (s .args .plane .now) (s .args .s) (s .args .eighths))
     at (c .block-sad .ensures)
 
 pub filtered-sad-spec : {M : Type 1} → statement M
@@ -57,6 +58,6 @@ filtered-sad-spec =
     fetch-luma-mb-halo-requires
     fraction-requires
     fraction-requires-2
-    sixtap-mb-luma-requires
+    filtered-mb-requires
     block-sad-requires
     returns)

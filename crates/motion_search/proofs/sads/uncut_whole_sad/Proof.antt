@@ -4,12 +4,13 @@ use native.Mathlib.Omega.{arith}
 use borrow.Author.Needs.{needs}
 use Rattle.laws.proofs.Sums.{sum-same}
 use Rattle.prediction.specs.declared.motion_vector.Mv.{Mv}
-use Rattle.prediction.specs.Vector.{storedMv}
-use Rattle.search.specs.Sad.{sad16, costOf}
+use Rattle.prediction.specs.Filter.{sixtap}
+use Rattle.sixtap.proofs.Sizes.{sixtap-whole}
+use Rattle.search.specs.Sad.{sad16}
 use Rattle.search.specs.Internal.{costAt, copiedAt}
 use Rattle.search.proofs.Accepted.{placed}
 use Rattle.search.proofs.Rows.{sad-rows}
-use Rattle.search.proofs.SadLaws.{copied-is}
+use Rattle.search.proofs.SadLaws.{cost-copied}
 use Rattle.motion_search.proofs.sads.uncut_whole_sad.Statement.{statement}
 use Rattle.motion_search.proofs.sads.uncut_whole_sad.Tie as tie
 
@@ -31,11 +32,10 @@ all-rows-sad-requires c κs =
 copied : (e : tie.After-stored-luma-mv)
     → sad16 (e .before .before .before .args .src .now) (copiedAt (e .before .before .before .args .plane .now) (e .before .before .before .args .s) (e .stored-luma-mv .result))
     ≡ costAt (e .before .before .before .args .plane .now) (e .before .before .before .args .s) (e .before .before .before .args .src .now) (e .before .before .before .args .mv)
-unfolding costOf
 copied e =
     let s = e .before .before .before in
     ap (λ (v : Mv). sad16 (s .args .src .now) (copiedAt (s .args .plane .now) (s .args .s) v)) (e .stored-luma-mv .ensures)
-    ∙ ap (sad16 (s .args .src .now)) (copied-is (s .args .plane .now) (s .args .s) (storedMv (s .args .mv)) (s .pre .1 .row) (s .pre .1 .col) (λ k. omega (arith, e .before .before .shared-slice-known .given k)))
+    ∙ cost-copied sixtap sixtap-whole (s .args .plane .now) (s .args .s) (s .args .src .now) (s .args .mv) (s .pre .1) (λ k. omega (arith, e .before .before .shared-slice-known .given k))
 
 returns : tie.Need-returns
 returns c =

@@ -2,7 +2,9 @@
 use native.Mathlib.Omega.{arith}
 use borrow.Author.Needs.{needs}
 use Rattle.prediction.specs.Vector.{storedMv}
+use Rattle.prediction.specs.Filter.{sixtap}
 use Rattle.prediction.proofs.Ceilings.{same-rows}
+use Rattle.sixtap.proofs.Sizes.{sixtap-whole}
 use Rattle.search.proofs.Accepted.{placed}
 use Rattle.search.proofs.SadLaws.{copied-is}
 use Rattle.motion_search.proofs.sads.whole_sad.Statement.{statement}
@@ -33,7 +35,7 @@ returns c =
     let e = i .before in
     let s = e .before .before .before in
     rw (c .parted .ensures)
-    (rw (copied-is (s .args .plane .now) (s .args .s) (storedMv (s .args .mv)) (s .pre .1 .row) (s .pre .1 .col) (λ k. omega (arith, e .before .before .shared-slice-known .given k)))
+    (rw (copied-is sixtap sixtap-whole (s .args .plane .now) (s .args .s) (storedMv (s .args .mv)) (s .pre .1 .row) (s .pre .1 .col) (λ k. omega (arith, e .before .before .shared-slice-known .given k)))
     at (rw (e .stored-luma-mv .ensures) at (same-rows _ _ 16 _ _ (i .inside-at .ensures (m .before .if1 .taken) .row (s .args .src .now)) (m .rows-up-to .ensures .0))))
 
 any-sad-requires : tie.Need-any-sad-requires
