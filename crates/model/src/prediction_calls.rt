@@ -1,17 +1,17 @@
 // Samples, vectors and filters for C.
+use filters::FilterAnswer;
 use numbers::answers::Sample;
 use numbers::answers::Status;
 use numbers::answers::Vector;
 use prediction::motion_vector::Mv;
-use sixtap::FilterAnswer;
 ghost use mathlib.Core.Path.{_≡_};
 ghost use lib.ListN.{getD};
 ghost use Rattle.laws.specs.Outcome.{firstOf};
 ghost use Rattle.prediction.specs.Samples.{clamped255, distance};
 ghost use Rattle.prediction.specs.Vector.{storedMv, wholeOf, fractionOf};
-ghost use Rattle.prediction.specs.Filter.{filterSetOf, sixtap, filtered};
+ghost use Rattle.prediction.specs.Filter.{filterSetOf, sixtap, bilinear, filtered};
 ghost use Rattle.prediction.specs.Prediction.{filteredMb};
-ghost use Rattle.sixtap.specs.Refusals.{selectorLines, filterLines};
+ghost use Rattle.filters.specs.Refusals.{selectorLines, filterLines};
 ghost use Rattle.numbers.specs.Answers.{filterNumber, mvOf, vectorNumbers, sampleNumbers, Fills};
 
 #[no_mangle]
@@ -78,6 +78,27 @@ pub extern "C" fn vp8model_sixtap_mb_luma(
         ⌜ Fills (filterLines mx my) (filteredMb sixtap mx my (now (halo .entry))) (now (block .entry)) r (now (block .exit)) ⌝ }
 {
     let made = sixtap::sixtap_mb_luma(*halo, mx, my);
+    let answer = made.answer;
+    if let FilterAnswer::Filtered = answer {
+        let filled = made.block;
+        *block = filled;
+        Status { refusal: 0 }
+    } else {
+        Status { refusal: 13 }
+    }
+}
+
+#[no_mangle]
+pub extern "C" fn vp8model_bilinear_mb_luma(
+    halo: &[u8; 441],
+    mx: u32,
+    my: u32,
+    block: &mut [u8; 256],
+) -> Status
+    ensures { λ r.
+        ⌜ Fills (filterLines mx my) (filteredMb bilinear mx my (now (halo .entry))) (now (block .entry)) r (now (block .exit)) ⌝ }
+{
+    let made = bilinear::bilinear_mb_luma(*halo, mx, my);
     let answer = made.answer;
     if let FilterAnswer::Filtered = answer {
         let filled = made.block;

@@ -7,10 +7,11 @@ use prediction::motion_vector::Mv;
 ghost use mathlib.Core.Path.{_≡_};
 ghost use Rattle.laws.specs.Outcome.{firstOf};
 ghost use Rattle.prediction.specs.Plane.{lumaPlane};
+ghost use Rattle.prediction.specs.Filter.{rowsFor};
 ghost use Rattle.laws.specs.Ceiling.{sumUpTo, rowsMeasured};
-ghost use Rattle.search.specs.Sad.{sad16, rowSad, costOf};
+ghost use Rattle.search.specs.Sad.{sad16, rowSad, costIn, costOf};
 ghost use Rattle.search.specs.Search.{diamond, refine};
-ghost use Rattle.search.specs.Refusals.{placeLines, vectorLines, gridLines};
+ghost use Rattle.search.specs.Refusals.{placeLines, gridLines, anySadLines, refineLines};
 ghost use Rattle.numbers.specs.Answers.{mvOf, sadNumbers, ceiledNumbers, searchNumbers, diamondNumbers};
 
 #[no_mangle]
@@ -84,11 +85,12 @@ pub extern "C" fn vp8model_mb_luma_sad_at_mv(
     src_y: &[u8; 256],
     mv_row: i16,
     mv_col: i16,
+    version: u8,
 ) -> Sad
     ensures { λ r.
         ⌜ r
-        ≡ sadNumbers (firstOf (vectorLines (lumaPlane (now (plane .entry)) stride width height) «mb_col» «mb_row» (mvOf «mv_row» «mv_col»))
-        (costOf (lumaPlane (now (plane .entry)) stride width height) «mb_col» «mb_row» (now («src_y» .entry)) (mvOf «mv_row» «mv_col»)))
+        ≡ sadNumbers (firstOf (anySadLines version (lumaPlane (now (plane .entry)) stride width height) «mb_col» «mb_row» (mvOf «mv_row» «mv_col»))
+        (costIn (rowsFor version) (lumaPlane (now (plane .entry)) stride width height) «mb_col» «mb_row» (now («src_y» .entry)) (mvOf «mv_row» «mv_col»)))
         ⌝ }
 {
     let mv = Mv {
@@ -104,6 +106,7 @@ pub extern "C" fn vp8model_mb_luma_sad_at_mv(
         mb_row,
         src_y,
         mv,
+        version,
     );
     numbers::sad_numbers(answer)
 }
@@ -157,11 +160,12 @@ pub extern "C" fn vp8model_half_pixel_refine_luma(
     src_y: &[u8; 256],
     center_row: i16,
     center_col: i16,
+    version: u8,
 ) -> Search
     ensures { λ r.
         ⌜ r
-        ≡ searchNumbers (firstOf (gridLines 4 (lumaPlane (now (plane .entry)) stride width height) «mb_col» «mb_row» (mvOf «center_row» «center_col»))
-        (refine (costOf (lumaPlane (now (plane .entry)) stride width height) «mb_col» «mb_row» (now («src_y» .entry))) 2 (mvOf «center_row» «center_col»)))
+        ≡ searchNumbers (firstOf (refineLines version 4 (lumaPlane (now (plane .entry)) stride width height) «mb_col» «mb_row» (mvOf «center_row» «center_col»))
+        (refine (costIn (rowsFor version) (lumaPlane (now (plane .entry)) stride width height) «mb_col» «mb_row» (now («src_y» .entry))) 2 (mvOf «center_row» «center_col»)))
         ⌝ }
 {
     let whole_pixel_center = Mv {
@@ -177,6 +181,7 @@ pub extern "C" fn vp8model_half_pixel_refine_luma(
         mb_row,
         src_y,
         whole_pixel_center,
+        version,
     );
     numbers::search_numbers(answer)
 }
@@ -192,11 +197,12 @@ pub extern "C" fn vp8model_quarter_pixel_refine_luma(
     src_y: &[u8; 256],
     center_row: i16,
     center_col: i16,
+    version: u8,
 ) -> Search
     ensures { λ r.
         ⌜ r
-        ≡ searchNumbers (firstOf (gridLines 2 (lumaPlane (now (plane .entry)) stride width height) «mb_col» «mb_row» (mvOf «center_row» «center_col»))
-        (refine (costOf (lumaPlane (now (plane .entry)) stride width height) «mb_col» «mb_row» (now («src_y» .entry))) 1 (mvOf «center_row» «center_col»)))
+        ≡ searchNumbers (firstOf (refineLines version 2 (lumaPlane (now (plane .entry)) stride width height) «mb_col» «mb_row» (mvOf «center_row» «center_col»))
+        (refine (costIn (rowsFor version) (lumaPlane (now (plane .entry)) stride width height) «mb_col» «mb_row» (now («src_y» .entry))) 1 (mvOf «center_row» «center_col»)))
         ⌝ }
 {
     let half_pixel_center = Mv {
@@ -212,6 +218,7 @@ pub extern "C" fn vp8model_quarter_pixel_refine_luma(
         mb_row,
         src_y,
         half_pixel_center,
+        version,
     );
     numbers::search_numbers(answer)
 }

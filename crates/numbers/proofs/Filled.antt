@@ -8,6 +8,9 @@ use Rattle.fetch.specs.declared.FetchAnswer.{FetchAnswer}
 use Rattle.fetch.specs.declared.FetchAnswer.the-variants.{Fetched, BadSize, ShortPlane, BadOrigin}
 use Rattle.fetch.specs.Refusals.{fetchOutcome, FillIs}
 use Rattle.fetch.proofs.Squares.{fetched}
+use Rattle.filters.specs.declared.FilterAnswer.{FilterAnswer}
+use Rattle.filters.specs.declared.FilterAnswer.the-variants.{Filtered, BadSelector}
+use Rattle.filters.specs.Refusals.{filterOutcome, FilterIs}
 use Rattle.numbers.specs.Answers.{numberOf, statusNumbers, Fills}
 
 module _ (lines : List Line) (block old : List ℕ) where
@@ -24,6 +27,14 @@ module _ (lines : List Line) (block old : List ℕ) where
         status = ap (λ (o : Outcome (List ℕ)). statusNumbers o) e;
         array = ap (λ (o : Outcome (List ℕ)). after o old block) e;
       }
+
+-- a filter's block: stored where it is filtered, else the array is kept
+module _ (lines : List Line) (block old made : List ℕ) (a : FilterAnswer) (n : ℕ) (f : FilterIs (firstOf lines block) n a made) where
+  pub filter-stored : a ≡ Filtered → Fills lines block old (record { refusal = 0 }) made
+  filter-stored e = stored lines block old made (sym (ap (λ (x : FilterAnswer). filterOutcome x made) e) ∙ f .outcome)
+
+  pub filter-kept : a ≡ BadSelector → Fills lines block old (record { refusal = 13 }) old
+  filter-kept e = kept lines block old 13 [] (sym (ap (λ (x : FilterAnswer). filterOutcome x made) e) ∙ f .outcome)
 
 -- a fetch into the array itself
 same-number : (a : FetchAnswer) (held : List ℕ) → numberOf (fetchOutcome a []) ≡ numberOf (fetchOutcome a held)

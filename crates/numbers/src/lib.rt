@@ -104,6 +104,10 @@ pub fn sad_numbers(answer: SadAnswer) -> Sad
             refusal: 12,
             sad: 0,
         },
+        SadAnswer::BadVersion => Sad {
+            refusal: 23,
+            sad: 0,
+        },
     }
 }
 
@@ -179,6 +183,7 @@ pub fn search_numbers(answer: SearchAnswer) -> Search
         SearchAnswer::BadMacroblock => search_refused(10),
         SearchAnswer::OutOfRange => search_refused(11),
         SearchAnswer::OffGrid => search_refused(12),
+        SearchAnswer::BadVersion => search_refused(23),
     }
 }
 

@@ -21,6 +21,9 @@ enum-told-4 c = search needs
 enum-told-5 : tie.Need-enum-told-5
 enum-told-5 c = search needs
 
+enum-told-6 : tie.Need-enum-told-6
+enum-told-6 c = search needs
+
 returns : tie.Need-returns
 returns c = simp (c .before .answer .given .1)
 
@@ -39,6 +42,9 @@ returns-5 c = simp (c .enum-told4 .given .1)
 returns-6 : tie.Need-returns-6
 returns-6 c = simp (c .enum-told5 .given .1)
 
+returns-7 : tie.Need-returns-7
+returns-7 c = simp (c .enum-told6 .given .1)
+
 pub sad-numbers-spec : {M : Type 1} → statement M
 sad-numbers-spec =
     tie.close
@@ -49,9 +55,11 @@ sad-numbers-spec =
     enum-told-3
     enum-told-4
     enum-told-5
+    enum-told-6
     returns
     returns-2
     returns-3
     returns-4
     returns-5
-    returns-6)
+    returns-6
+    returns-7)

@@ -39,6 +39,12 @@ enum-told-5 c = search needs
 search-refused-requires-5 : tie.Need-search-refused-requires-5
 search-refused-requires-5 c κs = search needs
 
+enum-told-6 : tie.Need-enum-told-6
+enum-told-6 c = search needs
+
+search-refused-requires-6 : tie.Need-search-refused-requires-6
+search-refused-requires-6 c κs = search needs
+
 returns : tie.Need-returns
 returns c =
     let found = c .before .before .answer .given in
@@ -61,6 +67,9 @@ returns-5 c = simp (c .search-refused4 .ensures, c .before .enum-told4 .given .1
 returns-6 : tie.Need-returns-6
 returns-6 c = simp (c .search-refused5 .ensures, c .before .enum-told5 .given .1)
 
+returns-7 : tie.Need-returns-7
+returns-7 c = simp (c .search-refused6 .ensures, c .before .enum-told6 .given .1)
+
 pub search-numbers-spec : {M : Type 1} → statement M
 search-numbers-spec =
     tie.close
@@ -76,9 +85,12 @@ search-numbers-spec =
     search-refused-requires-4
     enum-told-5
     search-refused-requires-5
+    enum-told-6
+    search-refused-requires-6
     returns
     returns-2
     returns-3
     returns-4
     returns-5
-    returns-6)
+    returns-6
+    returns-7)

@@ -1,11 +1,8 @@
 -- `vp8model_sixtap_mb_luma` meets its contract: the wrapped call's, as numbers. Assumes nothing.
-use mathlib.Core.Path.{sym, ap, _∙_}
-use mathlib.Core.List.{[]}
 use Rattle.prediction.specs.Filter.{sixtap}
 use Rattle.prediction.specs.Prediction.{filteredMb}
-use Rattle.sixtap.specs.declared.FilterAnswer.{FilterAnswer}
-use Rattle.sixtap.specs.Refusals.{filterLines, filterOutcome}
-use Rattle.numbers.proofs.Filled.{stored, kept}
+use Rattle.filters.specs.Refusals.{filterLines}
+use Rattle.numbers.proofs.Filled.{filter-stored, filter-kept}
 use borrow.Author.Needs.{needs}
 use Rattle.model.proofs.prediction_calls.vp8model_sixtap_mb_luma.Statement.{statement}
 use Rattle.model.proofs.prediction_calls.vp8model_sixtap_mb_luma.Tie as tie
@@ -23,15 +20,13 @@ returns : tie.Need-returns
 returns c =
     let s = c .before .before .before .before .before .args in
     let made = c .before .before .before .sixtap-mb-luma in
-    let e = ap (λ (a : FilterAnswer). filterOutcome a (made .result .block)) (c .before .enum-told .given .1) in
-    stored (filterLines (s .mx) (s .my)) (filteredMb sixtap (s .mx) (s .my) (s .halo .now)) (s .block .now) _ (sym e ∙ made .ensures .outcome)
+    filter-stored (filterLines (s .mx) (s .my)) (filteredMb sixtap (s .mx) (s .my) (s .halo .now)) (s .block .now) _ _ 256 (made .ensures) (c .before .enum-told .given .1)
 
 returns-2 : tie.Need-returns-2
 returns-2 c =
     let s = c .before .before .before .before .args in
     let made = c .before .before .sixtap-mb-luma in
-    let e = ap (λ (a : FilterAnswer). filterOutcome a (made .result .block)) (c .enum-told2 .given .1) in
-    kept (filterLines (s .mx) (s .my)) (filteredMb sixtap (s .mx) (s .my) (s .halo .now)) (s .block .now) 13 [] (sym e ∙ made .ensures .outcome)
+    filter-kept (filterLines (s .mx) (s .my)) (filteredMb sixtap (s .mx) (s .my) (s .halo .now)) (s .block .now) _ _ 256 (made .ensures) (c .enum-told2 .given .1)
 
 pub vp8model-sixtap-mb-luma-spec : {M : Type 1} → statement M
 vp8model-sixtap-mb-luma-spec =
