@@ -1,1 +1,2 @@
 pub mod Mean
+mod Copies

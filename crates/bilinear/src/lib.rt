@@ -4,15 +4,14 @@ use filters::FilterAnswer;
 use filters::FilteredMb;
 ghost use mathlib.Core.Path.{_≡_};
 ghost use Prim.Native.Nat.{_+_, _*_, _≤_, _<_, min};
-ghost use lib.ListN.{length};
+ghost use lib.ListN.{length, getD};
 ghost use Rattle.laws.specs.Outcome.{firstOf};
 ghost use Rattle.laws.specs.Tabulate.{tabulate};
-ghost use Rattle.laws.specs.Internal.{Filling};
 ghost use Rattle.prediction.specs.Filter.{bilinear};
 ghost use Rattle.prediction.specs.Prediction.{filteredMb};
 ghost use Rattle.filters.specs.Refusals.{filterLines, FilterIs};
 ghost use Rattle.filters.specs.Internal.{innerAcross, innerDown};
-ghost use Rattle.bilinear.specs.Internal.{meanOf};
+ghost use Rattle.bilinear.specs.Internal.{meanOf, columnsOf, bytesOf, Copying};
 
 // One filtered sample: the sample and the next one weighed by eighths, the paper's sum divided by 16 throughout.
 fn eighths(s: u16, x: u8, y: u8) -> u8
@@ -22,38 +21,46 @@ fn eighths(s: u16, x: u8, y: u8) -> u8
     (((8 - s) * (x as u16) + s * (y as u16) + 4) / 8) as u8
 }
 
-// Row r of the horizontal pass.
-fn horiz_row(out: &mut [u8; 272], halo: &[u8; 441], s: u16, r: usize)
-    requires { ⌜ (r < 17) × (s ≤ 7) × (length (now halo) ≡ 441) × Filling (innerAcross bilinear s (now halo)) 272 (now out) (r * 16) ⌝ }
-    ensures { λ _. ⌜ Filling (innerAcross bilinear s (now (halo .entry))) 272 (now (out .exit)) (r * 16 + 16) ⌝ }
+// A sample as it is, which is at most 255.
+fn kept(x: u8) -> u8
+    ensures { λ r. ⌜ (r ≡ x) × (r ≡ min x 255) ⌝ }
+{
+    x
+}
+
+// Row r of `columns`.
+fn copy_row(out: &mut [u8; 272], halo: &[u8; 441], right: usize, r: usize)
+    requires { ⌜ (r < 17) × (right ≤ 1) × (length (now halo) ≡ 441) × Copying right (now halo) (now out) (r * 16) ⌝ }
+    ensures { λ _. ⌜ Copying right (now (halo .entry)) (now (out .exit)) (r * 16 + 16) ⌝ }
 {
     for k in 0..16 {
-        let at = r * 21 + k + 44;
-        out[r * 16 + k] = eighths(s, halo[at], halo[at + 1]);
+        out[r * 16 + k] = kept(halo[r * 21 + k + 44 + right]);
     }
 }
 
-// The horizontal pass: 17 rows of 16.
-fn bilinear_horiz(halo: [u8; 441], s: u16) -> [u8; 272]
-    requires { ⌜ s ≤ 7 ⌝ }
-    ensures { λ r. ⌜ r ≡ tabulate 272 (innerAcross bilinear s halo) ⌝ }
+// The macroblock's samples with the row below it, 17 rows of 16, or those one column further right.
+fn columns(halo: [u8; 441], right: usize) -> [u8; 272]
+    requires { ⌜ right ≤ 1 ⌝ }
+    ensures { λ r. ⌜ (r ≡ tabulate 272 (columnsOf right halo)) × (r ≡ tabulate 272 (bytesOf right halo)) ⌝ }
 {
     let mut out = [0u8; 272];
     for r in 0..17 {
-        horiz_row(&mut out, &halo, s, r);
+        copy_row(&mut out, &halo, right, r);
     }
     out
 }
 
-// Row r of the vertical pass.
-fn vert_row(out: &mut [u8; 256], rows: &[u8; 272], s: u16, r: usize)
-    requires { ⌜ (r < 16) × (s ≤ 7) × (length (now rows) ≡ 272) × Filling (innerDown bilinear s (now rows)) 256 (now out) (r * 16) ⌝ }
-    ensures { λ _. ⌜ Filling (innerDown bilinear s (now (rows .entry))) 256 (now (out .exit)) (r * 16 + 16) ⌝ }
+// The horizontal pass, from the samples and the next ones. In one loop: of sixteen samples a turn the compiler would make columns of
+// eight (docs/SPEED.md).
+fn bilinear_horiz(samples: [u8; 272], next: [u8; 272], s: u16) -> [u8; 272]
+    requires { ⌜ s ≤ 7 ⌝ }
+    ensures { λ r. ⌜ r ≡ tabulate 272 (λ i. meanOf s (getD samples i 0) (getD next i 0)) ⌝ }
 {
-    for k in 0..16 {
-        let at = r * 16 + k;
-        out[at] = eighths(s, rows[at], rows[at + 16]);
+    let mut out = [0u8; 272];
+    for i in 0..272 {
+        out[i] = eighths(s, samples[i], next[i]);
     }
+    out
 }
 
 // The vertical pass: 16 rows of 16.
@@ -62,36 +69,8 @@ fn bilinear_vert(rows: [u8; 272], s: u16) -> [u8; 256]
     ensures { λ r. ⌜ r ≡ tabulate 256 (innerDown bilinear s rows) ⌝ }
 {
     let mut out = [0u8; 256];
-    for r in 0..16 {
-        vert_row(&mut out, &rows, s, r);
-    }
-    out
-}
-
-// A sample as it is.
-fn kept(x: u8) -> u8
-    ensures { λ r. ⌜ r ≡ min x 255 ⌝ }
-{
-    x
-}
-
-// Row r of the horizontal pass where its selector is 0.
-fn copy_row(out: &mut [u8; 272], halo: &[u8; 441], r: usize)
-    requires { ⌜ (r < 17) × (length (now halo) ≡ 441) × Filling (innerAcross bilinear 0 (now halo)) 272 (now out) (r * 16) ⌝ }
-    ensures { λ _. ⌜ Filling (innerAcross bilinear 0 (now (halo .entry))) 272 (now (out .exit)) (r * 16 + 16) ⌝ }
-{
-    for k in 0..16 {
-        out[r * 16 + k] = kept(halo[r * 21 + k + 44]);
-    }
-}
-
-// The horizontal pass where its selector is 0.
-fn middle_columns(halo: [u8; 441]) -> [u8; 272]
-    ensures { λ r. ⌜ r ≡ tabulate 272 (innerAcross bilinear 0 halo) ⌝ }
-{
-    let mut out = [0u8; 272];
-    for r in 0..17 {
-        copy_row(&mut out, &halo, r);
+    for i in 0..256 {
+        out[i] = eighths(s, rows[i], rows[i + 16]);
     }
     out
 }
@@ -112,10 +91,12 @@ fn horizontal(halo: [u8; 441], mx: u32) -> [u8; 272]
     requires { ⌜ mx ≤ 7 ⌝ }
     ensures { λ r. ⌜ r ≡ tabulate 272 (innerAcross bilinear mx halo) ⌝ }
 {
+    let samples = columns(halo, 0);
     if mx == 0 {
-        return middle_columns(halo);
+        return samples;
     }
-    bilinear_horiz(halo, mx as u16)
+    let next = columns(halo, 1);
+    bilinear_horiz(samples, next, mx as u16)
 }
 
 // The vertical pass of a selector.

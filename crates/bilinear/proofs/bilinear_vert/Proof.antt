@@ -1,41 +1,71 @@
 -- `bilinear_vert` meets its contract. Assumes nothing.
 use borrow.Author.Needs.{needs}
 use native.Mathlib.Omega.{arith}
-use Prim.Native.Nat.{_≤_, _-_, _*_}
-use mathlib.Core.Path.{_≡_, refl}
-use lib.ListN.{length}
+use Prim.Native.Nat.{_-_, _+_}
+use mathlib.Core.List.{[], _∷_}
+use mathlib.Core.Path.{_≡_, refl, _∙_}
+use lib.ListN.{length, getD}
 use Rattle.laws.specs.Internal.{Filling}
-use Rattle.laws.proofs.Tabulate.{fill-start, fill-end, fill-at}
+use Rattle.laws.proofs.Tabulate.{fill-start, fill-turn, fill-end}
 use Rattle.prediction.specs.Filter.{bilinear}
 use Rattle.filters.specs.Internal.{innerDown}
+use Rattle.bilinear.proofs.Mean.{mean-list}
 use Rattle.bilinear.proofs.bilinear_vert.Statement.{statement}
 use Rattle.bilinear.proofs.bilinear_vert.Tie as tie
 
 abbrev Inv-loop : tie.InvT-loop
-Inv-loop s rows out₀ r₀ out r = (r ≤ 16) × (length rows ≡ 272) × Filling (innerDown bilinear s rows) 256 out (r * 16)
+Inv-loop s rows out₀ i₀ out i = Filling (innerDown bilinear s rows) 256 out i × (length rows ≡ 272)
 
 abbrev μ-loop : tie.MeasureT-loop
-μ-loop s rows out₀ r₀ out r = 16 - r
+μ-loop s rows out₀ i₀ out i = 256 - i
 
 loop-holds : tie.Need-loop-holds Inv-loop μ-loop
-loop-holds c = (omega arith, search needs, fill-at (omega arith) (fill-start refl))
+loop-holds c = (fill-start refl, search needs)
 
-vert-row-requires : tie.Need-vert-row-requires Inv-loop μ-loop
-vert-row-requires c κs = search needs
+array-read-eighths : tie.Need-array-read-eighths Inv-loop μ-loop
+array-read-eighths c = search needs
 
-add-r : tie.Need-add-r Inv-loop μ-loop
-add-r c = search needs
+add-eighths : tie.Need-add-eighths Inv-loop μ-loop
+add-eighths c = search needs
+
+array-read-eighths-2 : tie.Need-array-read-eighths-2 Inv-loop μ-loop
+array-read-eighths-2 c = search needs
+
+eighths-requires : tie.Need-eighths-requires Inv-loop μ-loop
+eighths-requires c κs = search needs
+
+array-write-out : tie.Need-array-write-out Inv-loop μ-loop
+array-write-out c = search needs
+
+add-i : tie.Need-add-i Inv-loop μ-loop
+add-i c = search needs
 
 loop-less : tie.Need-loop-less Inv-loop μ-loop
 loop-less c = omega arith
 
 loop-again : tie.Need-loop-again Inv-loop μ-loop
-loop-again c = (omega arith, search needs, fill-at (omega arith) (c .vert-row .ensures))
+loop-again c =
+    let l = c .before .before .loop in
+    let a = c .before .before .before .args in
+    let v = c .eighths .ensures ∙ mean-list (a .s) (0 ∷ 0 ∷ getD (a .t1) (l .i) 0 ∷ getD (a .t1) (l .i + 16) 0 ∷ 0 ∷ 0 ∷ []) (c .before .before .before .pre) in
+    (fill-turn (l .inv .0) (omega arith) v, l .inv .1)
 
 returns : tie.Need-returns Inv-loop μ-loop
-returns c = fill-end (c .before .loop .inv .2) (omega arith)
+returns c = fill-end (c .before .loop .inv .0) (omega arith)
 
 pub bilinear-vert-spec : {M : Type 1} → statement M
 bilinear-vert-spec =
     tie.close
-    (tie.spec Inv-loop μ-loop loop-holds vert-row-requires add-r loop-less loop-again returns)
+    (tie.spec
+    Inv-loop
+    μ-loop
+    loop-holds
+    array-read-eighths
+    add-eighths
+    array-read-eighths-2
+    eighths-requires
+    array-write-out
+    add-i
+    loop-less
+    loop-again
+    returns)

@@ -3,30 +3,27 @@ use borrow.Author.Needs.{needs}
 use native.Mathlib.Omega.{arith}
 use Prim.Native.Nat.{ℕ, _≤_, _<_, _-_, _+_, _*_, _/_, _%_, min}
 use mathlib.Core.List.{List}
-use mathlib.Core.Path.{_≡_, refl, _∙_, ap}
+use mathlib.Core.Path.{_≡_, _∙_, ap}
 use lib.ListN.{length, getD}
-use Rattle.laws.specs.Internal.{Filling}
-use Rattle.laws.proofs.Tabulate.{fill-start, fill-turn, fill-end, fill-at}
-use Rattle.prediction.specs.Filter.{bilinear}
-use Rattle.filters.specs.Internal.{window, innerAcross}
-use Rattle.filters.proofs.Passes.{kept-is}
-use Rattle.bilinear.proofs.Mean.{bilinear-whole}
+use Rattle.laws.proofs.Tabulate.{fill-turn}
+use Rattle.bilinear.specs.Internal.{columnsOf, Copying}
+use Rattle.bilinear.proofs.Copies.{copied-at}
 use Rattle.bilinear.proofs.copy_row.Statement.{statement}
 use Rattle.bilinear.proofs.copy_row.Tie as tie
 
-place : (halo : List ℕ) (r k : ℕ) → k < 16 → min (getD halo (r * 21 + k + 44) 0) 255 ≡ innerAcross bilinear 0 halo (r * 16 + k)
-place halo r k h =
-    let e : r * 21 + k + 44 ≡ (r * 16 + k + 32) / 16 * 21 + (r * 16 + k + 32) % 16 + 2 * 1 = omega arith in
-    ap (λ (n : ℕ). min (getD halo n 0) 255) e ∙ kept-is bilinear bilinear-whole (window halo ((r * 16 + k + 32) / 16 * 21 + (r * 16 + k + 32) % 16) 1)
+place : (right : ℕ) (halo : List ℕ) (r k : ℕ) → k < 16 → getD halo (r * 21 + k + 44 + right) 0 ≡ columnsOf right halo (r * 16 + k)
+place right halo r k h =
+    let e : r * 21 + k + 44 + right ≡ (r * 16 + k) / 16 * 21 + (r * 16 + k) % 16 + 44 + right = omega arith in
+    ap (λ (n : ℕ). getD halo n 0) e
 
 abbrev Inv-loop : tie.InvT-loop
-Inv-loop out₀ halo r k₀ out k = (k ≤ 16) × (length halo ≡ 441) × Filling (innerAcross bilinear 0 halo) 272 out (r * 16 + k)
+Inv-loop out₀ halo right r k₀ out k = (k ≤ 16) × (length halo ≡ 441) × Copying right halo out (r * 16 + k)
 
 abbrev μ-loop : tie.MeasureT-loop
-μ-loop out₀ halo r k₀ out k = 16 - k
+μ-loop out₀ halo right r k₀ out k = 16 - k
 
 loop-holds : tie.Need-loop-holds Inv-loop μ-loop
-loop-holds c = (omega arith, c .pre .1, fill-at (omega arith) (c .pre .2))
+loop-holds c = (omega arith, c .pre .2, copied-at (omega arith) (c .pre .3))
 
 mul-kept : tie.Need-mul-kept Inv-loop μ-loop
 mul-kept c = search needs
@@ -36,6 +33,9 @@ add-kept c = search needs
 
 add-kept-2 : tie.Need-add-kept-2 Inv-loop μ-loop
 add-kept-2 c = search needs
+
+add-kept-3 : tie.Need-add-kept-3 Inv-loop μ-loop
+add-kept-3 c = search needs
 
 element-copy-out-kept : tie.Need-element-copy-out-kept Inv-loop μ-loop
 element-copy-out-kept c = search needs
@@ -62,11 +62,16 @@ loop-again : tie.Need-loop-again Inv-loop μ-loop
 loop-again c =
     let l = c .before .before .before .loop in
     let a = c .before .before .before .before .args in
-    let v = c .kept .ensures ∙ place (a .halo .now) (a .r) (l .k) (omega arith) in
-    (omega arith, l .inv .1, fill-at (omega arith) (fill-turn (l .inv .2) (omega arith) v))
+    let e = place (a .right) (a .halo .now) (a .r) (l .k) (omega arith) in
+    let v = c .kept .ensures .0 ∙ e in
+    let b = c .kept .ensures .1 ∙ ap (λ (n : ℕ). min n 255) e in (
+      omega arith,
+      l .inv .1,
+      copied-at (omega arith) (record { samples = fill-turn (l .inv .2 .samples) (omega arith) v; bytes = fill-turn (l .inv .2 .bytes) (omega arith) b }),
+    )
 
 returns : tie.Need-returns Inv-loop μ-loop
-returns c = fill-at (omega arith) (c .before .loop .inv .2)
+returns c = copied-at (omega arith) (c .before .loop .inv .2)
 
 pub copy-row-spec : {M : Type 1} → statement M
 copy-row-spec =
@@ -78,6 +83,7 @@ copy-row-spec =
     mul-kept
     add-kept
     add-kept-2
+    add-kept-3
     element-copy-out-kept
     kept-requires
     mul-out

@@ -42,7 +42,7 @@ loop-again : tie.Need-loop-again Inv-loop μ-loop
 loop-again c =
     let l = c .before .before .loop in
     let rows = c .before .before .before .args .t1 in
-    let v = c .kept .ensures ∙ kept-is bilinear bilinear-whole (0 ∷ 0 ∷ getD rows (l .i) 0 ∷ getD rows (l .i + 16) 0 ∷ 0 ∷ 0 ∷ []) in
+    let v = c .kept .ensures .1 ∙ kept-is bilinear bilinear-whole (0 ∷ 0 ∷ getD rows (l .i) 0 ∷ getD rows (l .i + 16) 0 ∷ 0 ∷ 0 ∷ []) in
     (fill-turn (l .inv .0) (omega arith) v, l .inv .1)
 
 returns : tie.Need-returns Inv-loop μ-loop
