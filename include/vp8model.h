@@ -9,10 +9,10 @@
  * array shares no byte with another argument.
  *
  * The first field of every struct that is returned, but vp8model_frame, is `refusal`: 0 where the call is
- * accepted, else the number of the first refusal that applies. Every field that the refusal does not name
- * is then 0, and every lent slice and array holds what it held before. Calls that are never refused give
- * their number, frame or array as it is; vp8model_stored_luma_mv and vp8model_block_sad_16x16_up_to, which
- * are never refused either, give a refusal of 0.
+ * accepted, else the number of the first refusal that applies, in the order of the lines below. Every field
+ * that the refusal does not name is then 0, and every lent slice and array holds what it held before. Calls
+ * that are never refused give their number, frame or array as it is; vp8model_stored_luma_mv and
+ * vp8model_block_sad_16x16_up_to, which are never refused either, give a refusal of 0.
  *
  *   1  the centre index is not below the frame count
  *   2  the frame count exceeds 1024
@@ -22,6 +22,7 @@
  *   5  a plane does not fit the picture bytes: frame, the index of the first such frame
  *   6  the output slice is shorter than P, the samples of all three planes
  *   7  either of the two working slices is shorter than P
+ *  23  the version exceeds 2
  *   8  the reference width or height is 0 or above 16383
  *   9  the reference plane is shorter than (height - 1) * stride + width
  *  10  a macroblock column or row exceeds 1023, or a fetch's pixel origin exceeds 16368 in either direction
@@ -131,14 +132,18 @@ vp8model_vector vp8model_stored_luma_mv(int16_t row, int16_t col);
 int32_t vp8model_whole_offset(int16_t v);
 uint32_t vp8model_fraction(int16_t v);
 
-/* 0: the six-tap rows, for version 0; 1: the bilinear rows, for every other, by which no call here filters. */
+/* 0: the six-tap rows, for version 0; 1: the bilinear rows, for every other. A call that predicts by a
+ * version takes 0, 1 and 2 alone: refusal 23. */
 uint32_t vp8model_filter_set_for_version(uint8_t version);
 
-/* One sample by the six-tap row of a selector, and a macroblock from its halo: selector mx across, then
- * my down. Refusal 13. */
+/* One sample by the six-tap row of a selector, and a macroblock from its halo by the six-tap rows or by the
+ * bilinear ones: selector mx across, then my down, rounded after each. Bilinear row k has the taps
+ * 128 - 16 k on the sample and 16 k on the next one. Refusal 13. */
 vp8model_sample vp8model_interp(uint32_t selector, const uint8_t support[6]);
 vp8model_status vp8model_sixtap_mb_luma(const uint8_t halo[441], uint32_t mx, uint32_t my,
                                         uint8_t block[256]);
+vp8model_status vp8model_bilinear_mb_luma(const uint8_t halo[441], uint32_t mx, uint32_t my,
+                                          uint8_t block[256]);
 
 /* Whether refusal 8, or refusal 9 at a plane of `len` bytes, applies: 1 or 0. vp8model_short_plane counts a
  * height of 0 as one row. */
@@ -157,8 +162,9 @@ vp8model_status vp8model_fetch_luma_mb_halo(const uint8_t *plane, size_t plane_l
 /* SADs of a source macroblock and its prediction. vp8model_block_sad_16x16 takes both as they are and
  * refuses nothing; nor does vp8model_block_sad_16x16_up_to, which adds row by row and ends with the
  * first row after which the sum is not below the ceiling: at a ceiling of 0 with the first row. A ceiling
- * of VP8MODEL_NO_CEILING or more is never reached: the whole SAD and 16 rows. The others: refusals 8 to
- * 12; the one at any vector never gives 12. */
+ * of VP8MODEL_NO_CEILING or more is never reached: the whole SAD and 16 rows. At a whole vector, where the
+ * prediction is a copy: refusals 8 to 12. At any vector, by the filters of a version: refusals 23 and 8 to
+ * 11. */
 uint32_t vp8model_block_sad_16x16(const uint8_t src[256], const uint8_t pred[256]);
 vp8model_ceiled vp8model_block_sad_16x16_up_to(const uint8_t src[256], const uint8_t pred[256],
                                                uint32_t ceiling);
@@ -167,10 +173,12 @@ vp8model_sad vp8model_mb_luma_sad_at_whole_mv(const uint8_t *plane, size_t plane
                                               const uint8_t src_y[256], int16_t mv_row, int16_t mv_col);
 vp8model_sad vp8model_mb_luma_sad_at_mv(const uint8_t *plane, size_t plane_len, size_t stride,
                                         size_t width, size_t height, size_t mb_col, size_t mb_row,
-                                        const uint8_t src_y[256], int16_t mv_row, int16_t mv_col);
+                                        const uint8_t src_y[256], int16_t mv_row, int16_t mv_col,
+                                        uint8_t version);
 
 /* The small diamond from any centre, at most max_iters rounds: refusals 8 to 10. Half and quarter
- * refinement of a centre: refusals 8 to 12. Vectors are in quarter pixels. */
+ * refinement of a centre, by the filters of a version: refusals 23 and 8 to 12. Vectors are in quarter
+ * pixels. */
 vp8model_diamond vp8model_small_diamond_search_luma(const uint8_t *plane, size_t plane_len, size_t stride,
                                                     size_t width, size_t height, size_t mb_col,
                                                     size_t mb_row, const uint8_t src_y[256],
@@ -179,11 +187,12 @@ vp8model_diamond vp8model_small_diamond_search_luma(const uint8_t *plane, size_t
 vp8model_search vp8model_half_pixel_refine_luma(const uint8_t *plane, size_t plane_len, size_t stride,
                                                 size_t width, size_t height, size_t mb_col, size_t mb_row,
                                                 const uint8_t src_y[256], int16_t center_row,
-                                                int16_t center_col);
+                                                int16_t center_col, uint8_t version);
 vp8model_search vp8model_quarter_pixel_refine_luma(const uint8_t *plane, size_t plane_len, size_t stride,
                                                    size_t width, size_t height, size_t mb_col,
                                                    size_t mb_row, const uint8_t src_y[256],
-                                                   int16_t center_row, int16_t center_col);
+                                                   int16_t center_row, int16_t center_col,
+                                                   uint8_t version);
 
 /* The weights of the differences 0 to 255 at a strength, one of them, the scale, and the distance bound:
  * n other frames move no sample farther. Strengths 7 to 255 are read as 6; at 0 every weight is 0. */

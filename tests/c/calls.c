@@ -1,7 +1,8 @@
 /*
  * Calls every function of vp8model.h, accepted and refused, and holds the answers against values worked out by
- * hand from document 01, those of the SAD up to a ceiling from request 4. Every slice and array is lent from
- * between guard entries. On a refusal, and for const arguments always, the lent entries are as they were.
+ * hand from document 01, those of the SAD up to a ceiling from request 4, those of versions and bilinear rows
+ * from request 10. Every slice and array is lent from between guard entries. On a refusal, and for const
+ * arguments always, the lent entries are as they were.
  *
  * Prints one line, `calls: N checks, M failed`, after a line for each check that fails. C11 and C++.
  */
@@ -243,6 +244,8 @@ static void samples_and_vectors(void)
     CHECK(vp8model_fraction(16) == 0);
     CHECK(vp8model_filter_set_for_version(0) == 0);
     CHECK(vp8model_filter_set_for_version(1) == 1);
+    CHECK(vp8model_filter_set_for_version(2) == 1);
+    CHECK(vp8model_filter_set_for_version(3) == 1);
     CHECK(vp8model_filter_set_for_version(255) == 1);
 }
 
@@ -275,37 +278,100 @@ static void filtered_samples(void)
     CHECK(s.refusal == 13 && s.sample == 0);
 }
 
-static vp8model_status filter_mb(uint32_t mx, uint32_t my)
+/* The two filters of a macroblock, alike. */
+enum rows { SIXTAP, BILINEAR };
+
+static vp8model_status filter_mb(enum rows by, uint32_t mx, uint32_t my)
 {
     lend_bytes(&block, 256, 9);
-    vp8model_status s = vp8model_sixtap_mb_luma(at_bytes(&source), mx, my, at_bytes(&block));
+    vp8model_status s = by == SIXTAP
+                            ? vp8model_sixtap_mb_luma(at_bytes(&source), mx, my, at_bytes(&block))
+                            : vp8model_bilinear_mb_luma(at_bytes(&source), mx, my, at_bytes(&block));
     CHECK(same_bytes(&source));
     CHECK(guarded_bytes(&block));
     return s;
 }
 
-static void filtered_macroblocks(void)
+static void filtered_macroblocks(enum rows by)
 {
     lend_bytes(&source, 441, 77);
-    CHECK(filter_mb(2, 6).refusal == 0);
+    CHECK(filter_mb(by, 2, 6).refusal == 0);
     CHECK(all_bytes(&block, 0, 256, 77));
     for (size_t i = 0; i < 441; i++)
         at_bytes(&source)[i] = (uint8_t)(i % 21 + 3 * (i / 21));
     keep_bytes(&source);
-    CHECK(filter_mb(0, 0).refusal == 0);
+    CHECK(filter_mb(by, 0, 0).refusal == 0);
     for (size_t i = 0; i < 256; i++)
         CHECK(at_bytes(&block)[i] == i % 16 + 2 + 3 * (i / 16 + 2));
     /* across by a half: plus 1/2, rounded up; down by a half: plus 3/2, rounded up */
-    CHECK(filter_mb(4, 0).refusal == 0);
+    CHECK(filter_mb(by, 4, 0).refusal == 0);
     CHECK(at_bytes(&block)[0] == 2 + 6 + 1);
-    CHECK(filter_mb(0, 4).refusal == 0);
+    CHECK(filter_mb(by, 0, 4).refusal == 0);
     CHECK(at_bytes(&block)[0] == 2 + 6 + 2);
-    CHECK(filter_mb(8, 0).refusal == 13);
+    CHECK(filter_mb(by, 8, 0).refusal == 13);
     CHECK(same_bytes(&block));
-    CHECK(filter_mb(0, 8).refusal == 13);
+    CHECK(filter_mb(by, 0, 8).refusal == 13);
     CHECK(same_bytes(&block));
-    CHECK(filter_mb(UINT32_MAX, UINT32_MAX).refusal == 13);
+    CHECK(filter_mb(by, 8, 8).refusal == 13);
     CHECK(same_bytes(&block));
+    CHECK(filter_mb(by, UINT32_MAX, UINT32_MAX).refusal == 13);
+    CHECK(same_bytes(&block));
+}
+
+/* The bilinear macroblock's first sample is `sample`, where a b over c d stand in the halo from column 2 and
+ * row 2 on: whatever the others are. */
+static int is_of_four(uint32_t mx, uint32_t my, uint8_t a, uint8_t b, uint8_t c, uint8_t d, uint8_t sample)
+{
+    for (int others = 0; others <= 255; others += 255) {
+        lend_bytes(&source, 441, (uint8_t)others);
+        uint8_t *first = at_bytes(&source) + 2 * 21 + 2;
+        first[0] = a;
+        first[1] = b;
+        first[21] = c;
+        first[22] = d;
+        keep_bytes(&source);
+        if (filter_mb(BILINEAR, mx, my).refusal != 0 || at_bytes(&block)[0] != sample)
+            return 0;
+    }
+    return 1;
+}
+
+static void bilinear_macroblocks(void)
+{
+    /* row 1: (112 * 255 + 64) / 128, 28624 / 128; row 2: (96 * 100 + 32 * 104 + 64) / 128, 12992 / 128;
+     * row 4: (64 * 255 + 64) / 128, 16384 / 128; row 7: (16 * 10 + 112 * 20 + 64) / 128, 2464 / 128 */
+    CHECK(is_of_four(1, 0, 255, 0, 9, 9, 223));
+    CHECK(is_of_four(0, 1, 255, 9, 0, 9, 223));
+    CHECK(is_of_four(2, 0, 100, 104, 9, 9, 101));
+    CHECK(is_of_four(0, 2, 100, 9, 104, 9, 101));
+    CHECK(is_of_four(4, 0, 0, 255, 9, 9, 128));
+    CHECK(is_of_four(0, 4, 0, 9, 255, 9, 128));
+    CHECK(is_of_four(7, 0, 10, 20, 9, 9, 19));
+    CHECK(is_of_four(0, 7, 10, 9, 20, 9, 19));
+    /* across 0 and (96 * 1 + 32 * 3 + 64) / 128 = 2, down (96 * 2 + 64) / 128 = 2; down first, 1 and 2 and then
+     * (96 * 1 + 32 * 2 + 64) / 128 = 1; rounded once, (96 * 96 * 1 + 32 * 96 * 3 + 8192) / 16384 = 1 */
+    CHECK(is_of_four(2, 6, 0, 0, 1, 3, 2));
+    /* across (32 * 1 + 96 * 3 + 64) / 128 = 3, down (32 * 3 + 64) / 128 = 1 */
+    CHECK(is_of_four(6, 2, 0, 0, 1, 3, 1));
+    /* nothing is read but the columns and rows 2 to 18 */
+    lend_bytes(&source, 441, 255);
+    for (size_t y = 2; y <= 18; y++)
+        memset(at_bytes(&source) + y * 21 + 2, 77, 17);
+    keep_bytes(&source);
+    CHECK(filter_mb(BILINEAR, 7, 7).refusal == 0);
+    CHECK(all_bytes(&block, 0, 256, 77));
+    /* a rise of 8 across and of 4 down: row k adds k across and k / 2, rounded up, down */
+    for (size_t i = 0; i < 441; i++)
+        at_bytes(&source)[i] = (uint8_t)(8 * (i % 21) + 4 * (i / 21));
+    keep_bytes(&source);
+    for (uint32_t k = 0; k < 64; k++) {
+        CHECK(filter_mb(BILINEAR, k % 8, k / 8).refusal == 0);
+        int rises = 1;
+        for (uint32_t i = 0; i < 256; i++)
+            rises = rises
+                    && at_bytes(&block)[i] == 8 * (i % 16 + 2) + k % 8 + 4 * (i / 16 + 2) + (k / 8 + 1) / 2;
+        CHECK(rises);
+    }
 }
 
 static void plane_refusals(void)
@@ -485,6 +551,8 @@ static const place no_size = {0, 0, 0, 1024, 1024};
 static const place one_short = {SIDE * SIDE - 1, SIDE, SIDE, 1024, 1};
 static const place far_column = {SIDE * SIDE, SIDE, SIDE, 1024, 1};
 static const place far_row = {SIDE * SIDE, SIDE, SIDE, 1, 1024};
+static const place two_by_two = {SIDE + 2, 2, 2, 0, 0};
+static const place three_by_one = {3, 3, 1, 0, 0};
 
 /* The source: the macroblock's samples moved dx columns right and dy rows down. */
 static void lend_source(int dx, int dy)
@@ -506,13 +574,13 @@ static vp8model_sad whole_sad(place p, int16_t row, int16_t col)
                                             p.mb_row, at_bytes(&source), row, col);
 }
 
-static vp8model_sad any_sad(place p, int16_t row, int16_t col)
+static vp8model_sad any_sad(place p, int16_t row, int16_t col, uint8_t version)
 {
     return vp8model_mb_luma_sad_at_mv(at_bytes(&plane), p.length, SIDE, p.width, p.height, p.mb_col,
-                                      p.mb_row, at_bytes(&source), row, col);
+                                      p.mb_row, at_bytes(&source), row, col, version);
 }
 
-static void sads(void)
+static void whole_sads(void)
 {
     lend_ramp();
     lend_source(1, -1);
@@ -527,17 +595,24 @@ static void sads(void)
     CHECK(is_sad(whole_sad(here, 1, -1024), 11, 0));
     CHECK(is_sad(whole_sad(here, 2, 0), 12, 0));
     CHECK(is_sad(whole_sad(here, 0, -1), 12, 0));
-    CHECK(is_sad(any_sad(here, -4, 4), 0, 0));
-    CHECK(is_sad(any_sad(here, 0, 0), 0, 512));
-    CHECK(is_sad(any_sad(no_size, 1024, 0), 8, 0));
-    CHECK(is_sad(any_sad(one_short, 1024, 0), 9, 0));
-    CHECK(is_sad(any_sad(far_column, 1024, 0), 10, 0));
-    CHECK(is_sad(any_sad(far_row, 1024, 0), 10, 0));
-    CHECK(is_sad(any_sad(here, -1024, 0), 11, 0));
-    CHECK(is_sad(any_sad(here, 0, 1024), 11, 0));
-    /* a quarter down: plus 90/128, rounded to 1, at each of 256 samples */
+}
+
+/* On the ramp every version gives the same. */
+static void sads(uint8_t version)
+{
+    lend_ramp();
+    lend_source(1, -1);
+    CHECK(is_sad(any_sad(here, -4, 4, version), 0, 0));
+    CHECK(is_sad(any_sad(here, 0, 0, version), 0, 512));
+    CHECK(is_sad(any_sad(no_size, 1024, 0, version), 8, 0));
+    CHECK(is_sad(any_sad(one_short, 1024, 0, version), 9, 0));
+    CHECK(is_sad(any_sad(far_column, 1024, 0, version), 10, 0));
+    CHECK(is_sad(any_sad(far_row, 1024, 0, version), 10, 0));
+    CHECK(is_sad(any_sad(here, -1024, 0, version), 11, 0));
+    CHECK(is_sad(any_sad(here, 0, 1024, version), 11, 0));
+    /* a quarter down: plus 90/128, bilinear 96/128, rounded to 1, at each of 256 samples */
     lend_source(0, 0);
-    CHECK(is_sad(any_sad(here, 1, 0), 0, 256));
+    CHECK(is_sad(any_sad(here, 1, 0, version), 0, 256));
 }
 
 static vp8model_diamond diamond(place p, int16_t row, int16_t col, uint32_t most)
@@ -580,39 +655,118 @@ static int is_search(vp8model_search s, uint32_t refusal, int16_t row, int16_t c
            && same_bytes(&source);
 }
 
-static vp8model_search half(place p, int16_t row, int16_t col)
+static vp8model_search half(place p, int16_t row, int16_t col, uint8_t version)
 {
     return vp8model_half_pixel_refine_luma(at_bytes(&plane), p.length, SIDE, p.width, p.height, p.mb_col,
-                                           p.mb_row, at_bytes(&source), row, col);
+                                           p.mb_row, at_bytes(&source), row, col, version);
 }
 
-static vp8model_search quarter(place p, int16_t row, int16_t col)
+static vp8model_search quarter(place p, int16_t row, int16_t col, uint8_t version)
 {
     return vp8model_quarter_pixel_refine_luma(at_bytes(&plane), p.length, SIDE, p.width, p.height,
-                                              p.mb_col, p.mb_row, at_bytes(&source), row, col);
+                                              p.mb_col, p.mb_row, at_bytes(&source), row, col, version);
 }
 
-static void refinements(void)
+/* On the ramp every version gives the same. */
+static void refinements(uint8_t version)
 {
     lend_ramp();
     lend_source(1, -1);
-    CHECK(is_search(half(here, -4, 4), 0, -4, 4, 0));
+    CHECK(is_search(half(here, -4, 4, version), 0, -4, 4, 0));
     /* (-2, -2) and (-2, 0) both have 256: the earlier is kept */
-    CHECK(is_search(half(here, 0, 0), 0, -2, -2, 256));
-    CHECK(is_search(half(no_size, 1024, 2), 8, 0, 0, 0));
-    CHECK(is_search(half(one_short, 1024, 2), 9, 0, 0, 0));
-    CHECK(is_search(half(far_column, 1024, 2), 10, 0, 0, 0));
-    CHECK(is_search(half(far_row, 1024, 2), 10, 0, 0, 0));
-    CHECK(is_search(half(here, 1024, 2), 11, 0, 0, 0));
-    CHECK(is_search(half(here, 4, 2), 12, 0, 0, 0));
-    CHECK(is_search(quarter(here, -2, -2), 0, -3, -2, 0));
-    CHECK(is_search(quarter(here, -4, 4), 0, -4, 4, 0));
-    CHECK(is_search(quarter(no_size, -1024, 1), 8, 0, 0, 0));
-    CHECK(is_search(quarter(one_short, -1024, 1), 9, 0, 0, 0));
-    CHECK(is_search(quarter(far_column, -1024, 1), 10, 0, 0, 0));
-    CHECK(is_search(quarter(far_row, -1024, 1), 10, 0, 0, 0));
-    CHECK(is_search(quarter(here, -1024, 1), 11, 0, 0, 0));
-    CHECK(is_search(quarter(here, 2, 1), 12, 0, 0, 0));
+    CHECK(is_search(half(here, 0, 0, version), 0, -2, -2, 256));
+    CHECK(is_search(half(no_size, 1024, 2, version), 8, 0, 0, 0));
+    CHECK(is_search(half(one_short, 1024, 2, version), 9, 0, 0, 0));
+    CHECK(is_search(half(far_column, 1024, 2, version), 10, 0, 0, 0));
+    CHECK(is_search(half(far_row, 1024, 2, version), 10, 0, 0, 0));
+    CHECK(is_search(half(here, 1024, 2, version), 11, 0, 0, 0));
+    CHECK(is_search(half(here, 4, 2, version), 12, 0, 0, 0));
+    CHECK(is_search(quarter(here, -2, -2, version), 0, -3, -2, 0));
+    CHECK(is_search(quarter(here, -4, 4, version), 0, -4, 4, 0));
+    CHECK(is_search(quarter(no_size, -1024, 1, version), 8, 0, 0, 0));
+    CHECK(is_search(quarter(one_short, -1024, 1, version), 9, 0, 0, 0));
+    CHECK(is_search(quarter(far_column, -1024, 1, version), 10, 0, 0, 0));
+    CHECK(is_search(quarter(far_row, -1024, 1, version), 10, 0, 0, 0));
+    CHECK(is_search(quarter(here, -1024, 1, version), 11, 0, 0, 0));
+    CHECK(is_search(quarter(here, 2, 1, version), 12, 0, 0, 0));
+}
+
+/* The first columns of every row of the source, 0 after them. */
+static void lend_columns(uint8_t first, uint8_t second)
+{
+    lend_bytes(&source, 256, 0);
+    for (size_t y = 0; y < 16; y++) {
+        at_bytes(&source)[16 * y] = first;
+        at_bytes(&source)[16 * y + 1] = second;
+    }
+    keep_bytes(&source);
+}
+
+/* Small pictures on which six-tap and bilinear rows give different answers. */
+static void versions(void)
+{
+    /* The picture 0 0 over 1 3, a source of 0, and the vector (3, 1): selectors 2 across and 6 down.
+     * Bilinear: across, row 0 is 0 0 .. and every other row 2 3 3 ..; down, row 0 becomes 2 2 .., as
+     * (96 * 2 + 64) / 128 and (96 * 3 + 64) / 128 are, and the others stay.
+     * Six-tap: across, row 0 is 0 0 .. and every other row (99 * 1 + 29 * 3 + 64) / 128 = 1 and then 3 3 ..;
+     * down, row 0 becomes (99 * 1 + 64) / 128 = 1 and then (99 * 3 + 64) / 128 = 2 2 .., and the others stay. */
+    lend_bytes(&plane, SIDE + 2, 200);
+    memset(at_bytes(&plane), 0, 2);
+    at_bytes(&plane)[SIDE] = 1;
+    at_bytes(&plane)[SIDE + 1] = 3;
+    keep_bytes(&plane);
+    lend_columns(0, 0);
+    CHECK(is_sad(any_sad(two_by_two, 3, 1, 0), 0, 1 + 15 * 2 + 15 * (1 + 15 * 3)));
+    CHECK(is_sad(any_sad(two_by_two, 3, 1, 1), 0, 16 * 2 + 15 * (2 + 15 * 3)));
+    CHECK(is_sad(any_sad(two_by_two, 3, 1, 2), 0, 16 * 2 + 15 * (2 + 15 * 3)));
+    /* The picture 0 100 0, whose rows are all alike. Half a column to the right a row is 50 50 0 .., six-tap
+     * 60 60 0 2 0 ..; to the left 0 50 50 0 .., six-tap 0 60 60 0 2 0 ... From the source 1 0 0 .. they differ
+     * by 49 + 50 and 1 + 50 + 50, six-tap by 59 + 60 + 2 and 1 + 60 + 60 + 2, and the centre by 1 + 100. */
+    lend_bytes(&plane, 3, 0);
+    at_bytes(&plane)[1] = 100;
+    keep_bytes(&plane);
+    lend_columns(1, 0);
+    CHECK(is_search(half(three_by_one, 0, 0, 0), 0, 0, 0, 16 * 101));
+    CHECK(is_search(half(three_by_one, 0, 0, 1), 0, -2, 2, 16 * 99));
+    CHECK(is_search(half(three_by_one, 0, 0, 2), 0, -2, 2, 16 * 99));
+    /* A quarter to the right a row is 25 75 0 .., six-tap 28 84 0 2 0 ..; three quarters to the right 75 25 0 ..,
+     * six-tap 84 28 0 1 0 ... From the source 45 71 0 .. they differ by 20 + 4 and 30 + 46, and the half by
+     * 5 + 21; six-tap by 17 + 13 + 2 and 39 + 43 + 1, and the half by 15 + 11 + 2. */
+    lend_columns(45, 71);
+    CHECK(is_search(quarter(three_by_one, 0, 2, 0), 0, 0, 2, 16 * 28));
+    CHECK(is_search(quarter(three_by_one, 0, 2, 1), 0, -1, 1, 16 * 24));
+    CHECK(is_search(quarter(three_by_one, 0, 2, 2), 0, -1, 1, 16 * 24));
+}
+
+/* A version above 2 goes before every other refusal. */
+static void refused_versions(void)
+{
+    lend_ramp();
+    lend_source(1, -1);
+    for (int v = 3; v <= 255; v++) {
+        uint8_t version = (uint8_t)v;
+        CHECK(is_sad(any_sad(here, -4, 4, version), 23, 0));
+        CHECK(is_search(half(here, -4, 4, version), 23, 0, 0, 0));
+        CHECK(is_search(quarter(here, -2, -2, version), 23, 0, 0, 0));
+    }
+    for (int v = 3; v <= 255; v += 252) {
+        uint8_t version = (uint8_t)v;
+        CHECK(is_sad(any_sad(no_size, 1024, 0, version), 23, 0));
+        CHECK(is_sad(any_sad(one_short, 1024, 0, version), 23, 0));
+        CHECK(is_sad(any_sad(far_column, 1024, 0, version), 23, 0));
+        CHECK(is_sad(any_sad(far_row, 0, 0, version), 23, 0));
+        CHECK(is_sad(any_sad(here, 0, -1024, version), 23, 0));
+        CHECK(is_search(half(no_size, 1024, 2, version), 23, 0, 0, 0));
+        CHECK(is_search(half(one_short, 1024, 2, version), 23, 0, 0, 0));
+        CHECK(is_search(half(far_column, 0, 0, version), 23, 0, 0, 0));
+        CHECK(is_search(half(here, 1024, 2, version), 23, 0, 0, 0));
+        CHECK(is_search(half(here, 4, 2, version), 23, 0, 0, 0));
+        CHECK(is_search(quarter(no_size, -1024, 1, version), 23, 0, 0, 0));
+        CHECK(is_search(quarter(one_short, -1024, 1, version), 23, 0, 0, 0));
+        CHECK(is_search(quarter(far_row, 0, 0, version), 23, 0, 0, 0));
+        CHECK(is_search(quarter(here, -1024, 1, version), 23, 0, 0, 0));
+        CHECK(is_search(quarter(here, 2, 1, version), 23, 0, 0, 0));
+    }
 }
 
 static int curve_has(uint8_t strength, size_t e, uint32_t w)
@@ -787,14 +941,21 @@ int main(void)
     empty_window();
     samples_and_vectors();
     filtered_samples();
-    filtered_macroblocks();
+    filtered_macroblocks(SIXTAP);
+    filtered_macroblocks(BILINEAR);
+    bilinear_macroblocks();
     plane_refusals();
     fetches();
     block_sads();
     ceiled_sads();
-    sads();
+    whole_sads();
     diamonds();
-    refinements();
+    for (uint8_t version = 0; version <= 2; version++) {
+        sads(version);
+        refinements(version);
+    }
+    versions();
+    refused_versions();
     weight_curves();
     frames_as_numbers();
     refused_builds(CHECKS_ONLY);
