@@ -55,6 +55,13 @@ void vp8model_dpi_sixtap_mb_luma(const uint8_t *halo, uint32_t mx, uint32_t my, 
     memcpy(answer, &s, sizeof s);
 }
 
+void vp8model_dpi_bilinear_mb_luma(const uint8_t *halo, uint32_t mx, uint32_t my, uint8_t *block,
+                                   svBitVecVal *answer)
+{
+    vp8model_status s = vp8model_bilinear_mb_luma(halo, mx, my, block);
+    memcpy(answer, &s, sizeof s);
+}
+
 uint8_t vp8model_dpi_bad_size(uint64_t width, uint64_t height)
 {
     return vp8model_bad_size(width, height);
@@ -102,10 +109,10 @@ void vp8model_dpi_mb_luma_sad_at_whole_mv(const svOpenArrayHandle plane, uint64_
 
 void vp8model_dpi_mb_luma_sad_at_mv(const svOpenArrayHandle plane, uint64_t stride, uint64_t width,
                                     uint64_t height, uint64_t mb_col, uint64_t mb_row, const uint8_t *src_y,
-                                    int16_t mv_row, int16_t mv_col, svBitVecVal *answer)
+                                    int16_t mv_row, int16_t mv_col, uint8_t version, svBitVecVal *answer)
 {
     vp8model_sad s = vp8model_mb_luma_sad_at_mv(bytes_of(plane), length(plane), stride, width, height, mb_col,
-                                                mb_row, src_y, mv_row, mv_col);
+                                                mb_row, src_y, mv_row, mv_col, version);
     memcpy(answer, &s, sizeof s);
 }
 
@@ -123,21 +130,22 @@ void vp8model_dpi_small_diamond_search_luma(const svOpenArrayHandle plane, uint6
 void vp8model_dpi_half_pixel_refine_luma(const svOpenArrayHandle plane, uint64_t stride, uint64_t width,
                                          uint64_t height, uint64_t mb_col, uint64_t mb_row,
                                          const uint8_t *src_y, int16_t center_row, int16_t center_col,
-                                         svBitVecVal *answer)
+                                         uint8_t version, svBitVecVal *answer)
 {
     vp8model_search s = vp8model_half_pixel_refine_luma(bytes_of(plane), length(plane), stride, width, height,
-                                                        mb_col, mb_row, src_y, center_row, center_col);
+                                                        mb_col, mb_row, src_y, center_row, center_col,
+                                                        version);
     memcpy(answer, &s, sizeof s);
 }
 
 void vp8model_dpi_quarter_pixel_refine_luma(const svOpenArrayHandle plane, uint64_t stride, uint64_t width,
                                             uint64_t height, uint64_t mb_col, uint64_t mb_row,
                                             const uint8_t *src_y, int16_t center_row, int16_t center_col,
-                                            svBitVecVal *answer)
+                                            uint8_t version, svBitVecVal *answer)
 {
     vp8model_search s = vp8model_quarter_pixel_refine_luma(bytes_of(plane), length(plane), stride, width,
                                                            height, mb_col, mb_row, src_y, center_row,
-                                                           center_col);
+                                                           center_col, version);
     memcpy(answer, &s, sizeof s);
 }
 
