@@ -4,8 +4,8 @@
  *
  * Three kinds of numbers are not the library's answers: the cost of a displacement, for which it is asked for the SAD of
  * two blocks; the products of a filter, from which its sample has to follow; and the vectors of a round's tries, of a
- * refinement's square and of the pairs of `orders`, of which it gives the SADs. The program ends with status 1 where
- * something that has to agree does not.
+ * refinement's square and of the pairs of `orders`, of which it gives the SADs. Searches and SADs are those of version
+ * 0, but in `bilinear`. The program ends with status 1 where something that has to agree does not.
  */
 #include "vp8model.h"
 
@@ -326,7 +326,7 @@ static void lend_valley(void)
 static uint32_t sad_at(int row, int col)
 {
     vp8model_sad s = vp8model_mb_luma_sad_at_mv(ramp, sizeof ramp, RAMP_WIDTH, RAMP_WIDTH, RAMP_HEIGHT, 2, 1, source,
-                                                (int16_t)row, (int16_t)col);
+                                                (int16_t)row, (int16_t)col, 0);
     require(s.refusal == 0, "a SAD was refused");
     return s.sad;
 }
@@ -399,9 +399,9 @@ static void print_refinement(const char *what, int row, int col, int step, int t
     vp8model_search s =
         step == VP8MODEL_HALF_PIXEL_STEP
             ? vp8model_half_pixel_refine_luma(ramp, sizeof ramp, RAMP_WIDTH, RAMP_WIDTH, RAMP_HEIGHT, 2, 1, source,
-                                              (int16_t)row, (int16_t)col)
+                                              (int16_t)row, (int16_t)col, 0)
             : vp8model_quarter_pixel_refine_luma(ramp, sizeof ramp, RAMP_WIDTH, RAMP_WIDTH, RAMP_HEIGHT, 2, 1, source,
-                                                 (int16_t)row, (int16_t)col);
+                                                 (int16_t)row, (int16_t)col, 0);
     require(s.refusal == 0, "a refinement was refused");
     printf("gives (%d, %d), SAD %" PRIu32 "\n", s.row, s.col, s.sad);
 }
@@ -471,7 +471,7 @@ static void print_pair(const char *what, int row, int col, int other_row, int ot
     printf("%s:", what);
     for (int k = 0; k < 2; k++) {
         vp8model_sad s = vp8model_mb_luma_sad_at_mv(field, sizeof field, FIELD_SIDE, FIELD_SIDE, FIELD_SIDE, 1, 1,
-                                                    source, (int16_t)v[k][0], (int16_t)v[k][1]);
+                                                    source, (int16_t)v[k][0], (int16_t)v[k][1], 0);
         require(s.refusal == 0, "a SAD was refused");
         printf(" (%d, %d) %" PRIu32, v[k][0], v[k][1], s.sad);
     }
@@ -492,7 +492,7 @@ static void print_refinement_order(int k)
     snprintf(what, sizeof what, "half refinement, %d and %d", k, k + 1);
     print_pair(what, 2 * down(k) - 2, 2 * across(k) - 2, 2 * down(k + 1) - 2, 2 * across(k + 1) - 2);
     vp8model_search s = vp8model_half_pixel_refine_luma(field, sizeof field, FIELD_SIDE, FIELD_SIDE, FIELD_SIDE, 1, 1,
-                                                        source, 0, 0);
+                                                        source, 0, 0, 0);
     require(s.refusal == 0, "a refinement was refused");
     printf("; gives (%d, %d)\n", s.row, s.col);
 }
@@ -564,6 +564,92 @@ static void two_passes(void)
     close_case();
 }
 
+/* ---- bilinear rows: four samples a b over c d, the first that of the macroblock, in a halo of 9 */
+
+/* The first sample of the macroblock, or the one below it. */
+static unsigned of_four(const uint8_t four[4], uint32_t mx, uint32_t my, int below)
+{
+    uint8_t block[256];
+    memset(halo, 9, sizeof halo);
+    memcpy(halo + 2 * 21 + 2, four, 2);
+    memcpy(halo + 3 * 21 + 2, four + 2, 2);
+    vp8model_status s = vp8model_bilinear_mb_luma(halo, mx, my, block);
+    require(s.refusal == 0, "a bilinear macroblock was refused");
+    return block[below ? 16 : 0];
+}
+
+/* Two products, and the library's sample, across and down, which has to follow from them. */
+static void print_row(uint32_t k, uint8_t sample, uint8_t next)
+{
+    const uint8_t beside[4] = {sample, next, 9, 9}, below[4] = {sample, 9, next, 9};
+    unsigned sum = (128 - 16 * k) * sample + 16 * k * next;
+    unsigned filtered = of_four(beside, k, 0, 0);
+    require(filtered == (sum + 64) / 128 && filtered == of_four(below, 0, k, 0),
+            "a bilinear sample does not follow from its products");
+    printf("row %" PRIu32 " on %u %u: products %u, sample %u\n", k, (unsigned)sample, (unsigned)next, sum, filtered);
+}
+
+static void print_four(uint32_t mx, uint32_t my)
+{
+    static const uint8_t four[4] = {0, 0, 1, 3};
+    printf("0 0 over 1 3 by (%" PRIu32 ", 0): %u over %u; by (%" PRIu32 ", %" PRIu32 "): %u\n", mx,
+           of_four(four, mx, 0, 0), of_four(four, mx, 0, 1), mx, my, of_four(four, mx, my, 0));
+}
+
+/* The picture 0 0 over 1 3 and a source of 0. */
+static void print_versions_of_sad(int16_t row, int16_t col)
+{
+    static const uint8_t picture[4] = {0, 0, 1, 3};
+    memset(source, 0, sizeof source);
+    printf("SAD of (%d, %d):", row, col);
+    for (uint8_t version = 0; version <= 3; version++) {
+        vp8model_sad s = vp8model_mb_luma_sad_at_mv(picture, 4, 2, 2, 2, 0, 0, source, row, col, version);
+        printf("%s version %u %s%" PRIu32, version == 0 ? "" : ",", (unsigned)version, s.refusal != 0 ? "refusal " : "",
+               s.refusal != 0 ? s.refusal : s.sad);
+    }
+    printf("\n");
+}
+
+/* The picture 0 100 0 and a source whose rows are `first`, `second` and zeros. */
+static void print_versions_of_refinement(const char *what, int step, int16_t row, int16_t col, uint8_t first,
+                                         uint8_t second)
+{
+    static const uint8_t picture[3] = {0, 100, 0};
+    memset(source, 0, sizeof source);
+    for (int y = 0; y < 16; y++) {
+        source[16 * y] = first;
+        source[16 * y + 1] = second;
+    }
+    printf("%s of (%d, %d):", what, row, col);
+    for (uint8_t version = 0; version <= 3; version++) {
+        vp8model_search s =
+            step == VP8MODEL_HALF_PIXEL_STEP
+                ? vp8model_half_pixel_refine_luma(picture, 3, 3, 3, 1, 0, 0, source, row, col, version)
+                : vp8model_quarter_pixel_refine_luma(picture, 3, 3, 3, 1, 0, 0, source, row, col, version);
+        printf("%s version %u ", version == 0 ? "" : ",", (unsigned)version);
+        if (s.refusal != 0)
+            printf("refusal %" PRIu32, s.refusal);
+        else
+            printf("(%d, %d) %" PRIu32, s.row, s.col, s.sad);
+    }
+    printf("\n");
+}
+
+static void bilinear(void)
+{
+    open_case("bilinear");
+    print_row(1, 255, 0);
+    print_row(2, 100, 104);
+    print_row(4, 0, 255);
+    print_row(7, 10, 20);
+    print_four(2, 6);
+    print_four(6, 2);
+    print_versions_of_sad(3, 1);
+    print_versions_of_refinement("half", VP8MODEL_HALF_PIXEL_STEP, 0, 0, 1, 0);
+    print_versions_of_refinement("quarter", VP8MODEL_QUARTER_PIXEL_STEP, 0, 2, 45, 71);
+    close_case();
+}
+
 /* ---- strides below the width */
 
 static const uint8_t few[6] = {10, 20, 30, 40, 50, 60};
@@ -616,6 +702,7 @@ int main(void)
     refinements();
     orders();
     two_passes();
+    bilinear();
     narrow_strides();
     return 0;
 }
