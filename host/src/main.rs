@@ -27,12 +27,14 @@ vp8model: a proved model of a VP8 encoder's picture pre-filter and luma motion s
     strength 0) they get nothing. Sides are 1 to 16383 and frames at most 1024. A plane's start is a 32-bit number:
     where one lies 4 GiB or more into the file, that is an error of the file (status 2), before any frame is read.
 
-  vp8model search --width W --height H [--limit N] REFERENCE.y SOURCE.y
+  vp8model search --width W --height H [--limit N] [--bitstream V] REFERENCE.y SOURCE.y
 
     Reads two luma planes and prints a line for each macroblock of the source: its column and row, then the diamond's
     vector, SAD, SADs computed and rounds made, then vector and SAD after half and after quarter refinement. Vectors
     are rows and columns in quarter pixels. The diamond begins at (0, 0) and makes at most N rounds (default
-    4294967295). Macroblocks past the right and bottom edge repeat the source's edge samples, as the reference does.
+    4294967295). Both refinements predict by the filters of bitstream version V: six-tap for 0 (the default), bilinear
+    for 1 and 2; the model refuses 3 to 255. Macroblocks past the right and bottom edge repeat the source's edge
+    samples, as the reference does.
 
   vp8model --help       prints this
   vp8model --version    prints the commit that the program was built from and what `rt version` said then
@@ -42,7 +44,7 @@ before anything is read; only a character device, as /dev/null, may be given for
 their names and renamed when all are whole: a refusal or a failed write leaves what stood there. /dev/stdout, a device
 or a pipe is written as it stands.
 
-Exit status: 0 done, or the reader of the output closed it; 1 the model refuses, with document 01's number and line;
+Exit status: 0 done, or the reader of the output closed it; 1 the model refuses, with the refusal's number and line;
 2 the words, a file or memory.
 ";
 

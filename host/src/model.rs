@@ -55,11 +55,11 @@ unsafe extern "C" {
     ) -> Diamond;
     fn vp8model_half_pixel_refine_luma(
         plane: *const u8, len: usize, stride: usize, width: usize, height: usize, mb_col: usize, mb_row: usize,
-        src_y: &[u8; 256], center_row: i16, center_col: i16,
+        src_y: &[u8; 256], center_row: i16, center_col: i16, version: u8,
     ) -> Search;
     fn vp8model_quarter_pixel_refine_luma(
         plane: *const u8, len: usize, stride: usize, width: usize, height: usize, mb_col: usize, mb_row: usize,
-        src_y: &[u8; 256], center_row: i16, center_col: i16,
+        src_y: &[u8; 256], center_row: i16, center_col: i16, version: u8,
     ) -> Search;
 }
 
@@ -112,20 +112,30 @@ pub fn diamond(r: Reference, (col, row): Place, source: &[u8; 256], limit: u32) 
     accepted(found.refusal, "").map(|()| found)
 }
 
-pub fn half(r: Reference, (col, row): Place, source: &[u8; 256], from: &Diamond) -> Result<Search, Failure> {
-    let (plane, len) = (r.plane.as_ptr(), r.plane.len());
+#[rustfmt::skip]
+pub fn half(
+    r: Reference, (col, row): Place, source: &[u8; 256], from: &Diamond, version: u8,
+) -> Result<Search, Failure> {
     // SAFETY: the pointer is that of a slice of the length beside it.
     let found = unsafe {
-        vp8model_half_pixel_refine_luma(plane, len, r.width, r.width, r.height, col, row, source, from.row, from.col)
+        vp8model_half_pixel_refine_luma(
+            r.plane.as_ptr(), r.plane.len(), r.width, r.width, r.height, col, row,
+            source, from.row, from.col, version,
+        )
     };
     accepted(found.refusal, "").map(|()| found)
 }
 
-pub fn quarter(r: Reference, (col, row): Place, source: &[u8; 256], from: &Search) -> Result<Search, Failure> {
-    let (plane, len) = (r.plane.as_ptr(), r.plane.len());
+#[rustfmt::skip]
+pub fn quarter(
+    r: Reference, (col, row): Place, source: &[u8; 256], from: &Search, version: u8,
+) -> Result<Search, Failure> {
     // SAFETY: the pointer is that of a slice of the length beside it.
     let found = unsafe {
-        vp8model_quarter_pixel_refine_luma(plane, len, r.width, r.width, r.height, col, row, source, from.row, from.col)
+        vp8model_quarter_pixel_refine_luma(
+            r.plane.as_ptr(), r.plane.len(), r.width, r.width, r.height, col, row,
+            source, from.row, from.col, version,
+        )
     };
     accepted(found.refusal, "").map(|()| found)
 }
@@ -145,7 +155,8 @@ fn accepted(refusal: u32, values: &str) -> Result<(), Failure> {
         10 => "a macroblock column or row exceeds 1023",
         11 => "a component of a vector is outside -1023..1023",
         12 => "a component of a vector is off its grid",
-        _ => "a number that document 01 does not list for this call",
+        23 => "the version exceeds 2",
+        _ => "a number that is not listed for this call",
     };
     Err(Failure::Refused(format!("the model refuses, number {refusal}: {line}{values}")))
 }

@@ -12,9 +12,10 @@ use std::path::Path;
 const HEADER: &str = "col row | diamond: row col sad sads rounds | half: row col sad | quarter: row col sad";
 
 pub fn run(words: &[String]) -> Result<(), Failure> {
-    let words = Words::parse(words, &["--width", "--height", "--limit"])?;
+    let words = Words::parse(words, &["--width", "--height", "--limit", "--bitstream"])?;
     let (width, height): (u32, u32) = (words.number("--width", u32::MAX)?, words.number("--height", u32::MAX)?);
     let limit = words.optional("--limit", u32::MAX)?.unwrap_or(u32::MAX);
+    let version = words.optional("--bitstream", u8::MAX)?.unwrap_or(0);
     let [reference, source] = words.files("REFERENCE.y and SOURCE.y")?;
     let inputs = [Named::input("REFERENCE.y", &reference)?, Named::input("SOURCE.y", &source)?];
     apart(&inputs.each_ref(), &[&Named::standard_output()?])?;
@@ -29,7 +30,7 @@ pub fn run(words: &[String]) -> Result<(), Failure> {
     for row in 0..rows {
         let mut lines = if row == 0 { format!("{HEADER}\n") } else { String::new() };
         for col in 0..columns {
-            lines += &searched(reference, source, (col, row), limit)?;
+            lines += &searched(reference, source, (col, row), limit, version)?;
         }
         say::text(&lines)?;
         progress.at(row as u64 + 1);
@@ -48,11 +49,11 @@ fn read_plane(path: &Path, samples: u64) -> Result<Vec<u8>, Failure> {
 }
 
 // One line: the diamond from (0, 0), half refinement of what it found, quarter refinement of that.
-fn searched(reference: Reference, source: Reference, place: Place, limit: u32) -> Result<String, Failure> {
+fn searched(reference: Reference, source: Reference, place: Place, limit: u32, version: u8) -> Result<String, Failure> {
     let block = macroblock(source, place);
     let d = model::diamond(reference, place, &block, limit)?;
-    let h = model::half(reference, place, &block, &d)?;
-    let q = model::quarter(reference, place, &block, &h)?;
+    let h = model::half(reference, place, &block, &d, version)?;
+    let q = model::quarter(reference, place, &block, &h, version)?;
     let (col, row) = place;
     let diamond = format!("{} {} {} {} {}", d.row, d.col, d.sad, d.sads, d.rounds);
     Ok(format!("{col} {row} | {diamond} | {} {} {} | {} {} {}\n", h.row, h.col, h.sad, q.row, q.col, q.sad))
