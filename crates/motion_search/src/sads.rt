@@ -2,7 +2,6 @@
 use bilinear::bilinear_mb_luma;
 use fetch::fetch_luma_mb_halo;
 use fetch::fetch_luma_mb_whole_pixel;
-use filters::FilteredMb;
 use prediction::ceiling::Ceiled;
 use prediction::ceiling::NO_CEILING;
 use prediction::inverse_transform::abs_diff;
@@ -18,15 +17,12 @@ ghost use Prim.Native.Nat.{_+_, _-_, _*_, _/_, _≤_, _<_};
 ghost use mathlib.Core.Bool.{true};
 ghost use lib.ListN.{length, getD};
 ghost use Rattle.laws.specs.Signed.{above, below};
-ghost use Rattle.laws.specs.Outcome.{firstOf};
 ghost use Rattle.laws.specs.Sums.{sumBelow};
 ghost use Rattle.prediction.specs.Samples.{distance};
 ghost use Rattle.prediction.specs.Vector.{wholeOf};
 ghost use Rattle.prediction.specs.Filter.{sixtap, tapsOf};
-ghost use Rattle.prediction.specs.Prediction.{filteredMb};
 ghost use Rattle.prediction.specs.Ceiled.{CeiledIs};
 ghost use Rattle.prediction.specs.Internal.{rowApart, parts};
-ghost use Rattle.filters.specs.Refusals.{filterLines, FilterIs};
 ghost use Rattle.search.specs.Sad.{sad16, rowSad};
 ghost use Rattle.search.specs.Internal.{costAt, costBy, costRow, copiedAt, predictedFrom, Ready, Copied, Inside, Lying, twoApart};
 
@@ -171,17 +167,8 @@ fn uncut_fetched_sad(plane: &[u8], s: Site, src: &[u8], eighths: Mv) -> u32
     uncut_block_sad(src, &block)
 }
 
-// The macroblock filtered from its halo by a filter set.
-fn filtered_mb(halo: [u8; 441], mx: u32, my: u32, set: FilterSet) -> FilteredMb
-    ensures { λ r. ⌜ FilterIs (firstOf (filterLines mx my) (filteredMb (tapsOf set) mx my halo)) 256 (r .answer) (r .block) ⌝ }
-{
-    match set {
-        FilterSet::Sixtap => sixtap_mb_luma(halo, mx, my),
-        FilterSet::Bilinear => bilinear_mb_luma(halo, mx, my),
-    }
-}
-
-// The SAD at a vector in eighths up to a ceiling, by the halo and the filter of a set.
+// The SAD at a vector in eighths up to a ceiling, by the halo and the filter of a set. Each filter's block is measured where it is made:
+// brought together first, it would be copied.
 fn filtered_sad(
     plane: &[u8],
     s: Site,
@@ -197,8 +184,18 @@ fn filtered_sad(
     let y = 16 * s.row;
     let fetched = fetch_luma_mb_halo(plane, s.stride, s.width, s.height, x, y, eighths);
     let halo = fetched.halo;
-    let filtered = filtered_mb(halo, fraction(eighths.col), fraction(eighths.row), set);
-    block_sad(src, &filtered.block, ceiling)
+    let mx = fraction(eighths.col);
+    let my = fraction(eighths.row);
+    match set {
+        FilterSet::Sixtap => {
+            let filtered = sixtap_mb_luma(halo, mx, my);
+            block_sad(src, &filtered.block, ceiling)
+        }
+        FilterSet::Bilinear => {
+            let filtered = bilinear_mb_luma(halo, mx, my);
+            block_sad(src, &filtered.block, ceiling)
+        }
+    }
 }
 
 // The SAD at any vector up to a ceiling, by a fetch: without fractions the block is copied, else filtered by a filter set. It may lie
