@@ -142,8 +142,7 @@ pub fn mb_luma_sad_at_mv(
     };
     let first = checked(plane, s, mv, 1);
     if let SadAnswer::Sad(_) = first {
-        let set = filter_set_for_version(version);
-        SadAnswer::Sad(uncut_any_sad(plane, s, src_y, mv, set))
+        SadAnswer::Sad(uncut_any_sad(plane, s, src_y, mv, version))
     } else {
         first
     }
@@ -208,11 +207,11 @@ fn refine_luma(
     let first = checked(plane, s, center, 2 * step);
     match first {
         SadAnswer::Sad(_) => {
-            let set = filter_set_for_version(version);
             let start = SearchResult {
                 mv: center,
-                sad: uncut_any_sad(plane, s, src, center, set),
+                sad: uncut_any_sad(plane, s, src, center, version),
             };
+            let set = filter_set_for_version(version);
             SearchAnswer::Found(refine_at(plane, s, src, start, step, set))
         }
         SadAnswer::BadSize => SearchAnswer::BadSize,

@@ -6,6 +6,7 @@ use prediction::ceiling::Ceiled;
 use prediction::ceiling::NO_CEILING;
 use prediction::inverse_transform::abs_diff;
 use prediction::motion_comp::FilterSet;
+use prediction::motion_comp::filter_set_for_version;
 use prediction::motion_comp::fraction;
 use prediction::motion_comp::stored_luma_mv;
 use prediction::motion_comp::whole_offset;
@@ -20,7 +21,7 @@ ghost use Rattle.laws.specs.Signed.{above, below};
 ghost use Rattle.laws.specs.Sums.{sumBelow};
 ghost use Rattle.prediction.specs.Samples.{distance};
 ghost use Rattle.prediction.specs.Vector.{wholeOf};
-ghost use Rattle.prediction.specs.Filter.{sixtap, tapsOf};
+ghost use Rattle.prediction.specs.Filter.{sixtap, tapsOf, rowsFor};
 ghost use Rattle.prediction.specs.Ceiled.{CeiledIs};
 ghost use Rattle.prediction.specs.Internal.{rowApart, parts};
 ghost use Rattle.search.specs.Sad.{sad16, rowSad};
@@ -287,10 +288,10 @@ pub(crate) fn uncut_whole_sad(plane: &[u8], s: Site, src: &[u8], mv: Mv) -> u32
     uncut_fetched_sad(plane, s, src, eighths)
 }
 
-// The SAD at any vector, not cut short.
-pub(crate) fn uncut_any_sad(plane: &[u8], s: Site, src: &[u8], mv: Mv, set: FilterSet) -> u32
+// The SAD at any vector by a version's filter, not cut short.
+pub(crate) fn uncut_any_sad(plane: &[u8], s: Site, src: &[u8], mv: Mv, version: u8) -> u32
     requires { ⌜ Ready (now plane) s (now src) ⌝ }
-    ensures { λ r. ⌜ r ≡ costBy (tapsOf set) (now (plane .entry)) s (now (src .entry)) mv ⌝ }
+    ensures { λ r. ⌜ r ≡ costBy (rowsFor version) (now (plane .entry)) s (now (src .entry)) mv ⌝ }
 {
     let eighths = stored_luma_mv(mv);
     if fraction(eighths.col) == 0 {
@@ -298,6 +299,13 @@ pub(crate) fn uncut_any_sad(plane: &[u8], s: Site, src: &[u8], mv: Mv, set: Filt
             return uncut_whole_sad(plane, s, src, mv);
         }
     }
-    let read = any_sad(plane, s, src, mv, NO_CEILING, set);
+    let read = any_sad(
+        plane,
+        s,
+        src,
+        mv,
+        NO_CEILING,
+        filter_set_for_version(version),
+    );
     read.sad
 }

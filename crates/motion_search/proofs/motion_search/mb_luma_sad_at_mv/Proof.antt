@@ -2,8 +2,7 @@
 use mathlib.Core.Path.{sym, ap, _∙_}
 use borrow.Author.Needs.{needs}
 use Rattle.laws.specs.Outcome.{accepted}
-use Rattle.prediction.specs.declared.motion_comp.FilterSet.{FilterSet}
-use Rattle.prediction.specs.Filter.{tapsOf, rowsFor}
+use Rattle.prediction.specs.Filter.{rowsFor}
 use Rattle.search.specs.Internal.{costBy}
 use Rattle.search.proofs.Accepted.{hit, pass, grid-one}
 use Rattle.search.proofs.Checks.{still-refused, site, linesOf, ready, counts}
@@ -22,12 +21,9 @@ checked-requires c κs = search needs
 enum-told : tie.Need-enum-told
 enum-told c = search needs
 
-filter-set-for-version-requires : tie.Need-filter-set-for-version-requires
-filter-set-for-version-requires c κs = search needs
-
 uncut-any-sad-requires : tie.Need-uncut-any-sad-requires
 uncut-any-sad-requires c κs =
-    let t = c .before .before in
+    let t = c .before in
     let a = t .before .before .before .before .before .before .args in
     let e = t .before .before .checked in
     let s = site (a .stride) (a .width) (a .height) (a .mb-col) (a .mb-row) in
@@ -35,14 +31,13 @@ uncut-any-sad-requires c κs =
 
 returns-2 : tie.Need-returns-2
 returns-2 c =
-    let f = c .before .before in
-    let t = f .before in
+    let t = c .before .before in
     let e = t .before .before .checked in
     let i = t .before .before .before in
     let a = i .before .before .before .args in
     let s = site (a .stride) (a .width) (a .height) (a .mb-col) (a .mb-row) in
     pass _ _ _ _ (sym (i .before .bad-version .ensures) ∙ i .if1 .left)
-    (ap accepted (c .uncut-any-sad .ensures ∙ ap (λ (set : FilterSet). costBy (tapsOf set) (a .plane .now) s (a .src-y .now) (a .mv)) (f .filter-set-for-version .ensures))
+    (ap accepted (c .uncut-any-sad .ensures)
     ∙ (rw (grid-one (a .mv)) at (counts 1 (a .plane .now) s (a .mv) (e .result) _ (e .ensures) (t .enum-told .given .1) (costBy (rowsFor (a .version)) (a .plane .now) s (a .src-y .now) (a .mv)))))
 
 returns-3 : tie.Need-returns-3
@@ -62,7 +57,6 @@ mb-luma-sad-at-mv-spec =
     returns
     checked-requires
     enum-told
-    filter-set-for-version-requires
     uncut-any-sad-requires
     returns-2
     returns-3)

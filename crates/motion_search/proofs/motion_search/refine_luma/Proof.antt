@@ -30,16 +30,15 @@ checked-requires c κs = search needs
 enum-told : tie.Need-enum-told
 enum-told c = search needs
 
-filter-set-for-version-requires : tie.Need-filter-set-for-version-requires
-filter-set-for-version-requires c κs = search needs
-
 uncut-any-sad-requires : tie.Need-uncut-any-sad-requires
 uncut-any-sad-requires c κs =
-    let t = c .before in
-    let s = t .before .before .before .before .before .before .before in
+    let s = c .before .before .before .before .before .before .before in
     let a = s .args in
-    let e = t .before .before .checked in
-    ready (2 * a .step) (a .plane .now) (a .s) (a .center) (e .result) _ (e .ensures) (t .enum-told .given .1) (a .src .now) (s .pre .0)
+    let e = c .before .before .checked in
+    ready (2 * a .step) (a .plane .now) (a .s) (a .center) (e .result) _ (e .ensures) (c .enum-told .given .1) (a .src .now) (s .pre .0)
+
+filter-set-for-version-requires : tie.Need-filter-set-for-version-requires
+filter-set-for-version-requires c κs = search needs
 
 refine-at-requires : tie.Need-refine-at-requires
 refine-at-requires c κs =
@@ -49,7 +48,7 @@ refine-at-requires c κs =
     let e = t .before .before .checked in
     let k = none-applies (2 * a .step) (a .plane .now) (a .s) (a .center) (e .result) _ (e .ensures) (t .enum-told .given .1) in (
       ready (2 * a .step) (a .plane .now) (a .s) (a .center) (e .result) _ (e .ensures) (t .enum-told .given .1) (a .src .now) (s .pre .0),
-      (c .uncut-any-sad .ensures, (s .pre .2, step-room (a .center) (a .step) (s .pre .1) (s .pre .2) (k .1 .1 .1 .0) (k .1 .1 .1 .1 .0))),
+      (c .before .uncut-any-sad .ensures ∙ ap (λ (set : FilterSet). costBy (tapsOf set) (a .plane .now) (a .s) (a .src .now) (a .center)) (sym (c .filter-set-for-version .ensures)), (s .pre .2, step-room (a .center) (a .step) (s .pre .1) (s .pre .2) (k .1 .1 .1 .0) (k .1 .1 .1 .1 .0))),
     )
 
 enum-told-2 : tie.Need-enum-told-2
@@ -72,8 +71,8 @@ enum-told-7 c = search needs
 
 returns-2 : tie.Need-returns-2
 returns-2 c =
-    let f = c .before .before in
-    let t = f .before in
+    let f = c .before in
+    let t = f .before .before in
     let e = t .before .before .checked in
     let i = t .before .before .before in
     let a = i .before .before .before .before .args in
@@ -139,8 +138,8 @@ refine-luma-spec =
     mul-checked
     checked-requires
     enum-told
-    filter-set-for-version-requires
     uncut-any-sad-requires
+    filter-set-for-version-requires
     refine-at-requires
     enum-told-2
     enum-told-3

@@ -6,9 +6,11 @@ use mir.Syntax.{w16}
 use mir.Val.{SFits}
 use mir.Facts.{toZ-ofZ}
 use Rattle.prediction.specs.declared.motion_vector.Mv.{Mv}
+use Rattle.prediction.specs.declared.motion_comp.FilterSet.{FilterSet}
 use Rattle.prediction.specs.declared.motion_comp.FilterSet.the-variants.{Sixtap}
+use Rattle.prediction.specs.Filter.{filterSetOf, tapsOf}
 use Rattle.prediction.specs.Vector.{fractionOf}
-use Rattle.search.specs.Internal.{planeOf, Copied}
+use Rattle.search.specs.Internal.{planeOf, costBy, Copied}
 use Rattle.search.proofs.Ceilings.{cost-whole}
 use Rattle.search.proofs.Versions.{whole-any-version}
 use Rattle.motion_search.proofs.sads.uncut_any_sad.Statement.{statement}
@@ -45,16 +47,21 @@ returns : tie.Need-returns
 returns c =
     let a = c .before .before .before .before .before .before .before .before .before .before .args in
     c .uncut-whole-sad .ensures
-    ∙ whole-any-version Sixtap (a .set) (planeOf (a .plane .now) (a .s)) (a .s .column) (a .s .row) (a .src .now) (a .mv)
+    ∙ whole-any-version Sixtap (filterSetOf (a .version)) (planeOf (a .plane .now) (a .s)) (a .s .column) (a .s .row) (a .src .now) (a .mv)
     (λ k. omega (arith, c .before .before .before .before .before .before .before .before .before .shared-slice-known .given k)) (copied (c .before))
+
+filter-set-for-version-requires : tie.Need-filter-set-for-version-requires
+filter-set-for-version-requires c κs = search needs
 
 any-sad-requires : tie.Need-any-sad-requires
 any-sad-requires c κs = search needs
 
 returns-2 : tie.Need-returns-2
 returns-2 c =
-    let src = c .before .before .before .before .before .shared-slice-known2 .given in
+    let a = c .before .before .before .before .before .before .before .before .args in
+    let src = c .before .before .before .before .before .before .shared-slice-known2 .given in
     cost-whole _ _ _ _ _ 65281 _ (λ i. omega (arith, src i)) (omega arith) (c .any-sad .ensures)
+    ∙ ap (λ (set : FilterSet). costBy (tapsOf set) (a .plane .now) (a .s) (a .src .now) (a .mv)) (c .before .filter-set-for-version .ensures)
 
 pub uncut-any-sad-spec : {M : Type 1} → statement M
 uncut-any-sad-spec =
@@ -65,5 +72,6 @@ uncut-any-sad-spec =
     fraction-requires-2
     uncut-whole-sad-requires
     returns
+    filter-set-for-version-requires
     any-sad-requires
     returns-2)
