@@ -1,5 +1,6 @@
 //! Finds the originals and writes, into OUT_DIR only, what the crate root includes:
-//! a `mod` line for each of the six files, and derived copies of motion_search.rs and arnr.rs that count.
+//! a `mod` line for each of the six files, derived copies of motion_search.rs and arnr.rs that count, and one of
+//! motion_search.rs that takes a version.
 //! VP8_SOURCES names their folder; a relative one, as the default, is seen from the repository's root.
 //! Links the model's static library where MODEL_LIB names it, for the comparison and the benchmark.
 
@@ -26,6 +27,7 @@ fn main() {
         fs::write(out.join("sources.rs"), mod_lines(&folder, &out)).unwrap();
         fs::write(out.join("counted_motion_search.rs"), counted_search(&folder)).unwrap();
         fs::write(out.join("counted_arnr.rs"), counted_builder(&folder)).unwrap();
+        fs::write(out.join("versioned_motion_search.rs"), versioned_search(&folder)).unwrap();
     } else {
         println!("cargo::rustc-cfg=sources_absent");
         println!("cargo::warning=no originals: {} is without {}.rs", folder.display(), missing.join(".rs, "));
@@ -58,7 +60,7 @@ fn mod_lines(folder: &Path, out: &Path) -> String {
         format!("#[allow(dead_code, unused_imports, clippy::all)]\n#[path = {path:?}]\npub mod {name};\n")
     };
     let mut lines: String = NAMES.into_iter().map(|name| line(file(folder, name), name)).collect();
-    for name in ["counted_motion_search", "counted_arnr"] {
+    for name in ["counted_motion_search", "counted_arnr", "versioned_motion_search"] {
         lines += &line(file(out, name), name);
     }
     lines
@@ -85,6 +87,25 @@ fn counted_builder(folder: &Path) -> String {
     let text = replaced(&text, call, &format!("                crate::counts::note_block();\n{call}"), 1);
     let head = "fn resolve_plane(plane: &mut [u8], acc: &[u32], wsum: &[u32]) {\n";
     replaced(&text, head, &format!("{head}    crate::counts::note_plane(acc, wsum);\n"), 1)
+}
+
+// motion_search.rs with a version as the last parameter of the SAD at any vector and of both refinements, handed on to
+// where the filter set is chosen, and nothing else changed.
+fn versioned_search(folder: &Path) -> String {
+    let text = fs::read_to_string(file(folder, "motion_search")).unwrap();
+    let text = replaced(&text, "filter_set_for_version(0).taps()", "filter_set_for_version(version).taps()", 1);
+    let (before, sad) = text.split_once("pub fn mb_luma_sad_at_mv(").expect("the SAD at any vector");
+    let sad = sad.replacen(" mv: Mv,\n)", " mv: Mv,\n    version: u8,\n)", 1);
+    let mut text = format!("{before}pub fn mb_luma_sad_at_mv({sad}");
+    for center in ["whole_pixel_center", "half_pixel_center"] {
+        let last = format!("    {center}: Mv,\n");
+        text = replaced(&text, &last, &format!("{last}    version: u8,\n"), 1);
+    }
+    for mv in ["best_mv", "cand_mv"] {
+        let call = format!("= mb_luma_sad_at_mv(reference, mb_col, mb_row, src_y, {mv}");
+        text = replaced(&text, &format!("{call})"), &format!("{call}, version)"), 2);
+    }
+    text
 }
 
 fn replaced(text: &str, old: &str, new: &str, times: usize) -> String {

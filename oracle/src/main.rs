@@ -41,6 +41,8 @@ mod refusals;
 mod rows;
 #[cfg(not(sources_absent))]
 mod search;
+#[cfg(not(sources_absent))]
+mod versions;
 
 // What the originals import under `crate::`.
 #[cfg(not(sources_absent))]

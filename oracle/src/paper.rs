@@ -1,5 +1,5 @@
-//! Document 01's rules for the luma prediction, read anew; below them those for the searches and for
-//! the denoiser. Each answer of the originals that they speak of is held against them before it is
+//! Document 01's rules for the luma prediction and request 10's bilinear filter, read anew; below them those for the
+//! searches and for the denoiser. Each answer of the originals that they speak of is held against them before it is
 //! written; where the two part, the run stops and says so.
 
 pub mod denoiser;
@@ -75,4 +75,38 @@ pub fn macroblock_filtered(halo: &[u8], mx: usize, my: usize) -> Vec<u8> {
     let across = |r: usize, c: usize| filtered(mx, std::array::from_fn(|k| halo[r * 21 + c + k]));
     let down = |r: usize, c: usize| filtered(my, std::array::from_fn(|k| across(r + k, c)));
     (0..256).map(|i| down(i / 16, i % 16)).collect()
+}
+
+/// Row k of the bilinear filter: 128 - 16k of a sample and 16k of the next.
+pub fn between(selector: usize, sample: u8, next: u8) -> u8 {
+    let taken = 16 * selector as u32;
+    (((128 - taken) * u32::from(sample) + taken * u32::from(next) + 64) / 128) as u8
+}
+
+/// The horizontal pass, then the vertical one, each rounded. The macroblock begins at row and column 2 of the halo.
+pub fn macroblock_bilinear(halo: &[u8], mx: usize, my: usize) -> Vec<u8> {
+    let across = |r: usize, c: usize| between(mx, halo[r * 21 + c], halo[r * 21 + c + 1]);
+    let down = |r: usize, c: usize| between(my, across(r, c), across(r + 1, c));
+    (0..256).map(|i| down(2 + i / 16, 2 + i % 16)).collect()
+}
+
+#[cfg(test)]
+mod tests {
+    use super::*;
+
+    #[test]
+    fn bilinear_samples() {
+        assert_eq!([0, 1, 4, 7].map(|k| between(k, 0, 255)), [0, 32, 128, 223]);
+        assert_eq!([0, 1, 4, 7].map(|k| between(k, 255, 0)), [255, 223, 128, 32]);
+        assert_eq!([between(4, 0, 1), between(4, 1, 0), between(3, 0, 1), between(7, 255, 255)], [1, 1, 0, 255]);
+    }
+
+    // Rows 0 1 and 2 1, halved both ways: 1 and 2, then 2. The vertical pass first would give 1 and 1, then 1; one
+    // rounding for both passes 1.
+    #[test]
+    fn the_horizontal_pass_is_first_and_rounds() {
+        let mut halo = [0; 441];
+        (halo[44], halo[45], halo[65], halo[66]) = (0, 1, 2, 1);
+        assert_eq!(macroblock_bilinear(&halo, 4, 4)[0], 2);
+    }
 }

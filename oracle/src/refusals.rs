@@ -1,4 +1,4 @@
-//! Document 01's refusals, in its order, in exact arithmetic. 0 means that the call is accepted.
+//! Document 01's refusals and request 10's, in their order, in exact arithmetic. 0 means that the call is accepted.
 //! Only accepted inputs are handed to the originals, and windows that 3 or 4 refuses, whose own error is held against it.
 
 use crate::motion_vector::Mv;
@@ -126,6 +126,11 @@ pub fn of_vector(p: Place, mv: Mv) -> u64 {
 pub fn of_vector_on_grid(p: Place, mv: Mv, grid: i16) -> u64 {
     let before = of_vector(p, mv);
     if before == 0 && (mv.row % grid != 0 || mv.col % grid != 0) { 12 } else { before }
+}
+
+/// 23, before any other number: the version exceeds 2.
+pub fn of_version(version: u8, other: u64) -> u64 {
+    if version > 2 { 23 } else { other }
 }
 
 pub fn legal_size(width: u64, height: u64) -> bool {

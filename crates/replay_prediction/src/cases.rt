@@ -8,9 +8,12 @@ use crate::header::selector;
 use crate::header::signed;
 use crate::header::support;
 use crate::header::vector;
+use bilinear::bilinear_mb_luma;
 use fetch::FetchAnswer;
 use fetch::fetch_luma_mb_halo;
 use fetch::fetch_luma_mb_whole_pixel;
+use filters::FilterAnswer;
+use filters::FilteredMb;
 use prediction::inverse_transform::abs_diff;
 use prediction::inverse_transform::clamp255;
 use prediction::motion_comp::FilterSet;
@@ -18,7 +21,6 @@ use prediction::motion_comp::filter_set_for_version;
 use prediction::motion_comp::fraction;
 use prediction::motion_comp::stored_luma_mv;
 use prediction::motion_comp::whole_offset;
-use sixtap::FilterAnswer;
 use sixtap::Interpolated;
 use sixtap::interp;
 use sixtap::sixtap_mb_luma;
@@ -50,7 +52,7 @@ pub(crate) fn next(fd: i32, planes: &[u8]) -> Step {
         0 => Step::Group(given),
         1 => whole_pixel(fd, planes, &header),
         2 => halo(fd, planes, &header),
-        3 => macroblock(fd, &header),
+        3 => macroblock(fd, kind, &header),
         4 => one(4, is_sample(&header)),
         5 => one(5, clamp255(signed(given)) as usize == answer),
         6 => distances(fd, byte(given)),
@@ -61,6 +63,7 @@ pub(crate) fn next(fd: i32, planes: &[u8]) -> Step {
             10,
             set_number(filter_set_for_version(byte(given))) == answer,
         ),
+        11 => macroblock(fd, kind, &header),
         99 => Step::End(answer),
         _ => Step::Unknown,
     }
@@ -136,7 +139,16 @@ fn halo(fd: i32, planes: &[u8], header: &[u8; 80]) -> Step {
     one(2, same && fetch_number(got.answer) == number(header, 1))
 }
 
-fn macroblock(fd: i32, header: &[u8; 80]) -> Step {
+// Of kind 3 the six-tap filter, of kind 11 the bilinear one.
+fn filtered(kind: usize, halo: [u8; 441], mx: u32, my: u32) -> FilteredMb {
+    if kind == 3 {
+        sixtap_mb_luma(halo, mx, my)
+    } else {
+        bilinear_mb_luma(halo, mx, my)
+    }
+}
+
+fn macroblock(fd: i32, kind: usize, header: &[u8; 80]) -> Step {
     let mut halo = [0u8; 441];
     if io::read_full(fd, &mut halo) < 441 {
         return Step::Cut;
@@ -145,14 +157,15 @@ fn macroblock(fd: i32, header: &[u8; 80]) -> Step {
     if io::read_full(fd, &mut expected) < 256 {
         return Step::Cut;
     }
-    let got = sixtap_mb_luma(
+    let got = filtered(
+        kind,
         halo,
         selector(number(header, 2)),
         selector(number(header, 3)),
     );
     let block = got.block;
     let same = check::same(&block, &expected);
-    one(3, same && filter_number(got.answer) == number(header, 1))
+    one(kind, same && filter_number(got.answer) == number(header, 1))
 }
 
 fn is_sample(header: &[u8; 80]) -> bool {

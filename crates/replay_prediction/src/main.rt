@@ -1,5 +1,6 @@
-// Replays the stored answers of the Rust originals, and document 01's refusals, on the crates `prediction`, `fetch` and `sixtap`, and prints how many cases
-// it compared and how many differ: by the size of the plane, the empty one first, then by call.
+// Replays the stored answers of the Rust originals, and document 01's refusals, on the crates `prediction`, `fetch`, `sixtap`
+// and `bilinear`, and prints how many cases it compared and how many differ: by the size of the plane, the empty one first,
+// then by call.
 // The layout of `planes` and `cases` is written in oracle/src/prediction/mod.rs.
 mod cases;
 mod header;

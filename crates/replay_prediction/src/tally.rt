@@ -1,5 +1,5 @@
-// Counts by kind, 1 to 10: compared at the kind, differing at 16 plus the kind. At 0 and 16 stand those of
-// the group of planes under way, at 11 and 27 those of all, at 15 the records read, at 31 the first record
+// Counts by kind, 1 to 11: compared at the kind, differing at 16 plus the kind. At 0 and 16 stand those of
+// the group of planes under way, at 12 and 28 those of all, at 15 the records read, at 31 the first record
 // that differs.
 use std::num::wrapping_add_u64;
 
@@ -26,7 +26,7 @@ fn note_first(counts: &mut [u64; 32]) {
 pub(crate) fn add(counts: &mut [u64; 32], kind: usize, compared: u64, differing: u64) {
     note(counts, 15, 1, 0);
     note(counts, 0, compared, differing);
-    note(counts, 11, compared, differing);
+    note(counts, 12, compared, differing);
     note(counts, kind, compared, differing);
     if 0 < differing {
         note_first(counts);
@@ -73,7 +73,8 @@ fn print_calls(counts: &[u64; 32]) {
     print_line(counts, 8, b"whole_offset: ");
     print_line(counts, 9, b"fraction: ");
     print_line(counts, 10, b"filter_set_for_version: ");
-    print_line(counts, 11, b"all: ");
+    print_line(counts, 11, b"bilinear_mb_luma: ");
+    print_line(counts, 12, b"all: ");
 }
 
 pub(crate) fn print_failure(counts: &[u64; 32], why: &[u8]) {

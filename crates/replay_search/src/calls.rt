@@ -1,5 +1,6 @@
 // One record: the call made, its answer compared.
 use crate::header::block;
+use crate::header::byte;
 use crate::header::number;
 use crate::header::part;
 use crate::header::vector;
@@ -17,7 +18,7 @@ use search::DiamondAnswer;
 use search::SadAnswer;
 use search::SearchAnswer;
 
-// Document 01's number of a refusal, 0 where the call is accepted, and what is found; what is not is 0, and for the vector the
+// The number of a refusal, 0 where the call is accepted, and what is found; what is not is 0, and for the vector the
 // one that is stored as 0. The count is that of the SADs computed, or of the rows measured.
 struct Outcome {
     refusal: usize,
@@ -27,7 +28,7 @@ struct Outcome {
     rounds: u32,
 }
 
-// Where a call measures.
+// Where a call measures, and the version of those that take one.
 struct Place {
     stride: usize,
     width: usize,
@@ -35,6 +36,7 @@ struct Place {
     col: usize,
     row: usize,
     mv: Mv,
+    version: u8,
 }
 
 fn place_of(record: &[u8; 128]) -> Place {
@@ -46,6 +48,7 @@ fn place_of(record: &[u8; 128]) -> Place {
         col: number(record, 7),
         row: number(record, 8),
         mv: mv,
+        version: byte(number(record, 15)),
     }
 }
 
@@ -90,6 +93,7 @@ fn of_sad(answer: SadAnswer) -> Outcome {
         SadAnswer::BadMacroblock => refused(10),
         SadAnswer::OutOfRange => refused(11),
         SadAnswer::OffGrid => refused(12),
+        SadAnswer::BadVersion => refused(23),
     }
 }
 
@@ -110,6 +114,7 @@ fn of_search(answer: SearchAnswer) -> Outcome {
         SearchAnswer::BadMacroblock => refused(10),
         SearchAnswer::OutOfRange => refused(11),
         SearchAnswer::OffGrid => refused(12),
+        SearchAnswer::BadVersion => refused(23),
     }
 }
 
@@ -136,7 +141,17 @@ fn whole_sad(plane: &[u8], p: Place, src: [u8; 256]) -> Outcome {
 }
 
 fn any_sad(plane: &[u8], p: Place, src: [u8; 256]) -> Outcome {
-    of_sad(mb_luma_sad_at_mv(plane, p.stride, p.width, p.height, p.col, p.row, &src, p.mv))
+    of_sad(mb_luma_sad_at_mv(
+        plane,
+        p.stride,
+        p.width,
+        p.height,
+        p.col,
+        p.row,
+        &src,
+        p.mv,
+        p.version,
+    ))
 }
 
 fn diamond(plane: &[u8], p: Place, src: [u8; 256], limit: u32) -> Outcome {
@@ -154,7 +169,17 @@ fn diamond(plane: &[u8], p: Place, src: [u8; 256], limit: u32) -> Outcome {
 }
 
 fn half(plane: &[u8], p: Place, src: [u8; 256]) -> Outcome {
-    of_search(half_pixel_refine_luma(plane, p.stride, p.width, p.height, p.col, p.row, &src, p.mv))
+    of_search(half_pixel_refine_luma(
+        plane,
+        p.stride,
+        p.width,
+        p.height,
+        p.col,
+        p.row,
+        &src,
+        p.mv,
+        p.version,
+    ))
 }
 
 fn quarter(plane: &[u8], p: Place, src: [u8; 256]) -> Outcome {
@@ -167,6 +192,7 @@ fn quarter(plane: &[u8], p: Place, src: [u8; 256]) -> Outcome {
         p.row,
         &src,
         p.mv,
+        p.version,
     ))
 }
 
@@ -198,10 +224,19 @@ fn same(got: Outcome, refusal: usize, sad: usize, mv: Mv) -> bool {
     got.refusal == refusal && got.sad as usize == sad && found.row == mv.row && found.col == mv.col
 }
 
+// The rounds stored; where a call takes a version, that stands in their place.
+fn rounds(kind: usize, record: &[u8; 128]) -> usize {
+    if kind == 3 || kind == 5 || kind == 6 {
+        0
+    } else {
+        number(record, 15)
+    }
+}
+
 pub(crate) fn agrees(kind: usize, samples: &[u8], record: &[u8; 128]) -> bool {
     let got = answered(kind, samples, record);
     let counts = got.count as usize == number(record, 14)
-        && got.rounds as usize == number(record, 15);
+        && got.rounds as usize == rounds(kind, record);
     let mv = vector(number(record, 13));
     counts && same(got, number(record, 1), number(record, 12), mv)
 }

@@ -11,6 +11,10 @@ pub(crate) fn number(record: &[u8; 128], index: usize) -> usize {
     stored::number(record, index)
 }
 
+pub(crate) fn byte(n: usize) -> u8 {
+    (n % 256) as u8
+}
+
 // A 32-bit number.
 pub(crate) fn word(n: usize) -> u32 {
     (n % 4294967296) as u32

@@ -1,6 +1,6 @@
-//! Document 01's rules for the luma searches, and request 4's for a SAD with a ceiling.
+//! Document 01's rules for the luma searches, request 4's for a SAD with a ceiling and request 10's for a version.
 
-use super::{Plane, doubled, fraction, macroblock_filtered};
+use super::{Plane, doubled, fraction, macroblock_bilinear, macroblock_filtered};
 use crate::motion_vector::Mv;
 
 /// What no SAD reaches; a search measures its start up to it.
@@ -33,15 +33,20 @@ pub fn sad_up_to(a: &[u8], b: &[u8], columns: usize, ceiling: u32) -> (u32, u32)
     (sum, rows)
 }
 
-/// The prediction of a macroblock at a vector in quarter pixels.
-pub fn predicted(plane: &Plane, (col, row): (usize, usize), mv: Mv) -> Vec<u8> {
+/// The prediction of a macroblock at a vector in quarter pixels: six-tap at version 0, bilinear at 1 and 2.
+pub fn predicted(plane: &Plane, (col, row): (usize, usize), mv: Mv, version: u8) -> Vec<u8> {
     let eighths = Mv { row: doubled(mv.row), col: doubled(mv.col) };
     let (mx, my) = (fraction(eighths.col) as usize, fraction(eighths.row) as usize);
     let (x, y) = (col * 16, row * 16);
     if mx == 0 && my == 0 {
         return plane.macroblock(x, y, eighths);
     }
-    macroblock_filtered(&plane.halo(x, y, eighths), mx, my)
+    let halo = plane.halo(x, y, eighths);
+    match version {
+        0 => macroblock_filtered(&halo, mx, my),
+        1 | 2 => macroblock_bilinear(&halo, mx, my),
+        _ => panic!("version {version} is refused"),
+    }
 }
 
 // Clamped first, then cut toward zero to a multiple of 4.

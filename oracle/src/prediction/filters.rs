@@ -1,6 +1,7 @@
-//! Cases of `sixtap_mb_luma` and `interp`.
+//! Cases of `sixtap_mb_luma`, `interp` and `bilinear_mb_luma`. The original has one call for both filters of a macroblock,
+//! which is handed the rows.
 
-use crate::motion_comp::{SIXTAP_FILTERS, interp, sixtap_mb_luma};
+use crate::motion_comp::{BILINEAR_FILTERS, SIXTAP_FILTERS, interp, sixtap_mb_luma};
 use crate::random::Random;
 use crate::records::Records;
 use crate::{paper, refusals};
@@ -23,6 +24,40 @@ pub fn add(records: &mut Records) {
         add_sample(records, selector, [0, 0, 255, 255, 0, 0]);
         add_sample(records, selector, [0; 6]);
     }
+}
+
+/// The bilinear filter: every pair of selectors on each halo, and the selectors that are refused.
+pub fn add_bilinear(records: &mut Records) {
+    for support in supports() {
+        for (row, taps) in BILINEAR_FILTERS.iter().enumerate() {
+            let sample = paper::between(row, support[2], support[3]);
+            assert_eq!(interp(taps, &support), sample, "bilinear row {row} at {support:?}");
+        }
+    }
+    let halos = bilinear_halos();
+    for halo in &halos {
+        for pair in 0..64 {
+            add_blended(records, halo, pair / 8, pair % 8);
+        }
+    }
+    let refused = [8, 9, 255, 256, 1 << 31, u32::MAX];
+    for (i, beyond) in refused.into_iter().enumerate() {
+        let other = refused[(i + 1) % 6];
+        for (mx, my) in [(beyond, 0), (0, beyond), (beyond, 7), (3, beyond), (beyond, other)] {
+            add_blended(records, &halos[i % 2], mx, my);
+        }
+    }
+}
+
+fn add_blended(records: &mut Records, halo: &[u8; 441], mx: u32, my: u32) {
+    let refusal = refusals::of_selectors(&[mx, my]);
+    let mut block = [0; 256];
+    if refusal == 0 {
+        let (mx, my) = (mx as usize, my as usize);
+        block = sixtap_mb_luma(halo, mx, my, &BILINEAR_FILTERS);
+        assert_eq!(block[..], paper::macroblock_bilinear(halo, mx, my), "bilinear at {mx}, {my}");
+    }
+    records.add(11, refusal, &[mx.into(), my.into()], &[halo, &block]);
 }
 
 fn add_macroblock(records: &mut Records, halo: &[u8; 441], mx: u32, my: u32) {
@@ -63,6 +98,19 @@ fn halos() -> Vec<[u8; 441]> {
         std::array::from_fn(|_| random.byte()),
         std::array::from_fn(|_| if random.byte() < 128 { 0 } else { 255 }),
     ]
+}
+
+// Of those halos checkers and noise; black, white, a hill, and noise of few levels.
+fn bilinear_halos() -> Vec<[u8; 441]> {
+    let mut random = Random::new(16);
+    let hill = |i: usize| {
+        let (r, c) = (i / 21, i % 21);
+        (30 + r * (20 - r) + c * (20 - c)) as u8
+    };
+    let mut all = [0, 1, 5, 6].map(|k| halos()[k]).to_vec();
+    all.extend([[0; 441], [255; 441], std::array::from_fn(hill)]);
+    all.push(std::array::from_fn(|_| random.below(4) as u8));
+    all
 }
 
 // The starred supports, every support of 0 and 255, and random ones.

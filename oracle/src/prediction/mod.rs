@@ -1,4 +1,5 @@
-//! The answers for the crates `prediction`, `fetch` and `sixtap`: the files `planes` and `cases` of the replay's data/, and its stdout.
+//! The answers for the crates `prediction`, `fetch`, `sixtap` and `bilinear`: the files `planes` and `cases` of the replay's
+//! data/, and its stdout.
 //!
 //! `planes` is 32768 bytes of noise; the plane of a fetch is a part of it. `cases` is a file of records
 //! (see records.rs). With the numbers of a record counted from 0, number 1 being the expected answer:
@@ -16,6 +17,7 @@
 //! kind 8, whole_offset: [1] the 32-bit number, [2] the component
 //! kind 9, fraction: [1] the fraction, [2] the component
 //! kind 10, filter_set_for_version: [1] 0 for six-tap, 1 for bilinear, [2] the version
+//! kind 11, bilinear_mb_luma: as kind 3
 //!
 //! A vector is its row plus 65536 times its column, each plus 32768; a fetch's vector is in eighths, or,
 //! with 2^32 added, in quarter pixels, to be doubled by stored_luma_mv first.
@@ -34,7 +36,7 @@ const PLANES: usize = 32768;
 const COMPONENTS: [i16; 16] = [0, 1, -1, 4, -4, 7, -7, 8, -8, 1020, -1020, 1023, -1023, 32767, -32767, -32768];
 
 /// The calls in the order in which the replay prints them, by kind from 1 on.
-const CALLS: [&str; 10] = [
+const CALLS: [&str; 11] = [
     "fetch_luma_mb_whole_pixel",
     "fetch_luma_mb_halo",
     "sixtap_mb_luma",
@@ -45,6 +47,7 @@ const CALLS: [&str; 10] = [
     "whole_offset",
     "fraction",
     "filter_set_for_version",
+    "bilinear_mb_luma",
 ];
 
 /// Writes data/planes, data/cases and stdout, which is what a replay prints where nothing differs.
@@ -54,6 +57,7 @@ pub fn write(folder: &Path) -> std::io::Result<()> {
     let groups = fetches::add(&mut records, &planes);
     filters::add(&mut records);
     numbers::add(&mut records);
+    filters::add_bilinear(&mut records);
     std::fs::create_dir_all(folder.join("data"))?;
     std::fs::write(folder.join("data/planes"), &planes)?;
     std::fs::write(folder.join("stdout"), printed(&groups, &records))?;

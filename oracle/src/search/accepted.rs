@@ -22,8 +22,9 @@ pub fn add(writer: &mut Writer) {
     add_random(writer);
 }
 
-fn case(start: usize, stride: u64, size: (u64, u64), mb: (u64, u64), source: usize, mv: (i16, i16)) -> Case {
-    Case { start, len: needed(stride, size), stride, size, mb, source, mv, limit: u32::MAX }
+/// A plane of exactly the bytes that it needs.
+pub fn case(start: usize, stride: u64, size: (u64, u64), mb: (u64, u64), source: usize, mv: (i16, i16)) -> Case {
+    Case { start, len: needed(stride, size), stride, size, mb, source, mv, limit: u32::MAX, version: 0 }
 }
 
 // Any 16-bit centre of the diamond, some with no round to show the start, some that walk from there.

@@ -6,20 +6,21 @@
 //! kind 1, block_sad_16x16: [2] and [9] where the two macroblocks start; [12] the SAD
 //! kind 2, mb_luma_sad_at_whole_mv: [1] refusal or 0, [2] start and [3] length of the plane, [4] stride,
 //!     [5] width, [6] height, [7] macroblock column, [8] row, [9] start of the macroblock, [10] vector; [12] the SAD
-//! kind 3, mb_luma_sad_at_mv: the same
-//! kind 4, small_diamond_search_luma: the same and [11] the limit; [12] the SAD found, [13] the vector found,
+//! kind 3, mb_luma_sad_at_mv: the same and [15] the version
+//! kind 4, small_diamond_search_luma: as kind 2 and [11] the limit; [12] the SAD found, [13] the vector found,
 //!     [14] the SADs computed, [15] the rounds made
-//! kind 5, half_pixel_refine_luma: as kind 2; [12] the SAD found, [13] the vector found
+//! kind 5, half_pixel_refine_luma: as kind 3; [12] the SAD found, [13] the vector found
 //! kind 6, quarter_pixel_refine_luma: the same
 //! kind 7, block_sad_16x16_up_to: [2] and [9] where the two macroblocks start, [11] the ceiling; [12] the value,
 //!     [14] the rows measured
 //!
-//! What a call that is refused would find is stored as 0.
+//! What a call that is refused would find is stored as 0. Where a kind does not name it, [11] says nothing.
 
 mod accepted;
 mod ceilings;
 mod refused;
 mod samples;
+mod versions;
 
 use crate::motion_search as original;
 use crate::motion_search::LumaRef;
@@ -28,7 +29,7 @@ use crate::paper::Plane;
 use crate::paper::search::{Found, NO_CEILING, diamond, predicted, refine, sad, sad_up_to};
 use crate::records::{Records, packed};
 use crate::refusals::{self, Place};
-use crate::{counts, random::Random};
+use crate::{counts, random::Random, versions as versioned};
 use std::fmt::Debug;
 use std::path::Path;
 
@@ -43,7 +44,8 @@ const CALLS: [&str; 7] = [
     "block_sad_16x16_up_to",
 ];
 
-/// A plane, a macroblock's place in it, the macroblock's own samples, a vector, and the diamond's limit.
+/// A plane, a macroblock's place in it, the macroblock's own samples, a vector, the diamond's limit, and the version of
+/// the calls that take one.
 #[derive(Clone, Copy)]
 struct Case {
     start: usize,
@@ -54,6 +56,7 @@ struct Case {
     source: usize,
     mv: (i16, i16),
     limit: u32,
+    version: u8,
 }
 
 /// Of a vector and a ceiling.
@@ -72,6 +75,7 @@ pub fn write(folder: &Path) -> std::io::Result<()> {
     accepted::add(&mut writer);
     add_block_sads(&mut writer);
     ceilings::add(&mut writer);
+    versions::add(&mut writer);
     std::fs::create_dir_all(folder.join("data"))?;
     std::fs::write(folder.join("data/samples"), &samples)?;
     std::fs::write(folder.join("stdout"), printed(&writer.records))?;
@@ -126,6 +130,13 @@ impl Writer<'_> {
         self.quarter(case);
     }
 
+    // The three calls that take a version.
+    fn versioned(&mut self, case: Case) {
+        self.any(case);
+        self.half(case);
+        self.quarter(case);
+    }
+
     fn whole(&mut self, case: Case) {
         let refusal = refusals::of_vector_on_grid(case.place(), case.vector(), 4);
         let found = (refusal == 0).then(|| {
@@ -144,11 +155,10 @@ impl Writer<'_> {
     }
 
     fn any(&mut self, case: Case) {
-        let refusal = refusals::of_vector(case.place(), case.vector());
+        let refusal = refusals::of_version(case.version, refusals::of_vector(case.place(), case.vector()));
         let found = (refusal == 0).then(|| {
-            let (col, row) = case.macroblock();
-            let source = self.block(case.source);
-            let got = original::mb_luma_sad_at_mv(self.reference(&case), col, row, source, case.vector());
+            let (mb, source) = (case.macroblock(), self.block(case.source));
+            let got = versioned::mb_luma_sad_at_mv(self.reference(&case), mb, source, case.vector(), case.version);
             self.judged(&case, &got, |cost| cost(case.vector(), NO_CEILING));
             [got.into(), 0, 0, 0]
         });
@@ -170,11 +180,11 @@ impl Writer<'_> {
     }
 
     fn half(&mut self, case: Case) {
-        let refusal = refusals::of_vector_on_grid(case.place(), case.vector(), 4);
+        let on_grid = refusals::of_vector_on_grid(case.place(), case.vector(), 4);
+        let refusal = refusals::of_version(case.version, on_grid);
         let found = (refusal == 0).then(|| {
-            let (col, row) = case.macroblock();
-            let source = self.block(case.source);
-            let got = original::half_pixel_refine_luma(self.reference(&case), col, row, source, case.vector());
+            let (mb, source) = (case.macroblock(), self.block(case.source));
+            let got = versioned::half_pixel_refine_luma(self.reference(&case), mb, source, case.vector(), case.version);
             self.judged(&case, &(got.mv, got.sad), |cost| refine(cost, 2, case.vector()));
             [got.sad.into(), packed(got.mv), 0, 0]
         });
@@ -182,23 +192,24 @@ impl Writer<'_> {
     }
 
     fn quarter(&mut self, case: Case) {
-        let refusal = refusals::of_vector_on_grid(case.place(), case.vector(), 2);
+        let on_grid = refusals::of_vector_on_grid(case.place(), case.vector(), 2);
+        let refusal = refusals::of_version(case.version, on_grid);
         let found = (refusal == 0).then(|| {
-            let (col, row) = case.macroblock();
-            let source = self.block(case.source);
-            let got = original::quarter_pixel_refine_luma(self.reference(&case), col, row, source, case.vector());
+            let (mb, source) = (case.macroblock(), self.block(case.source));
+            let got =
+                versioned::quarter_pixel_refine_luma(self.reference(&case), mb, source, case.vector(), case.version);
             self.judged(&case, &(got.mv, got.sad), |cost| refine(cost, 1, case.vector()));
             [got.sad.into(), packed(got.mv), 0, 0]
         });
         self.put(6, refusal, case, found);
     }
 
-    // What the original gives has to be what document 01's rules give, over whole SADs and over SADs up to a ceiling.
+    // What the original gives has to be what the rules of src/paper/ give, over whole SADs and over SADs up to a ceiling.
     #[track_caller]
     fn judged<T: Debug + PartialEq>(&self, case: &Case, got: &T, rules: impl Fn(&Cost) -> T) {
         let LumaRef { plane: bytes, stride, width, height } = self.reference(case);
         let (plane, source) = (Plane { bytes, stride, width, height }, self.block(case.source));
-        let block = |mv| predicted(&plane, case.macroblock(), mv);
+        let block = |mv| predicted(&plane, case.macroblock(), mv, case.version);
         assert_eq!(*got, rules(&|mv, _| sad(source, &block(mv))), "over whole SADs");
         assert_eq!(*got, rules(&|mv, ceiling| sad_up_to(source, &block(mv), 16, ceiling).0), "up to a ceiling");
     }
@@ -207,7 +218,10 @@ impl Writer<'_> {
         let Case { start, len, stride, size, mb, source, limit, .. } = case;
         let vector = packed(case.vector());
         let given = [start as u64, len as u64, stride, size.0, size.1, mb.0, mb.1, source as u64, vector, limit.into()];
-        let numbers = [&given[..], &found.unwrap_or_default()].concat();
+        let mut numbers = [&given[..], &found.unwrap_or_default()].concat();
+        if [3, 5, 6].contains(&kind) {
+            numbers[13] = case.version.into();
+        }
         self.records.add(kind, refusal, &numbers, &[]);
     }
 }

@@ -15,7 +15,7 @@ pub fn add(writer: &mut Writer) {
 }
 
 fn case(len: usize, stride: u64, size: (u64, u64), mb: (u64, u64), mv: (i16, i16)) -> Case {
-    Case { start: NOISE, len, stride, size, mb, source: SOURCES, mv, limit: 3 }
+    Case { start: NOISE, len, stride, size, mb, source: SOURCES, mv, limit: 3, version: 0 }
 }
 
 // 8: legal and illegal widths and heights, over no bytes and over many.
@@ -87,19 +87,25 @@ fn add_vectors(writer: &mut Writer) {
 // Each pair of refusals at once, and all of them: the earlier number wins.
 fn add_together(writer: &mut Writer) {
     for bits in 1..32 {
-        let is = |k: i32| bits >> k & 1 == 1;
-        let size = if is(0) { (16384, 20) } else { (20, 20) };
-        let len = if is(1) { 399 } else { 20000 };
-        let mb = if is(2) { (0, 1024) } else { (0, 1) };
         for swapped in [false, true] {
-            let (far, odd) = (if is(3) { 1024 } else { 0 }, if is(4) { 3 } else { 0 });
-            let mv = if swapped { (odd, far) } else { (far, odd) };
-            let size = if swapped { (size.1, size.0) } else { size };
-            let mb = if swapped { (mb.1, mb.0) } else { mb };
-            writer.all(case(len, 20, size, mb, mv));
+            writer.all(together(bits, swapped));
         }
     }
     for both in [1025, -1025, 1026, 32767, -32767] {
         writer.all(case(400, 20, (20, 20), (0, 0), (both, 0)));
+    }
+}
+
+/// Of the refusals 8 to 12 those with a bit; `swapped` with rows and columns exchanged.
+pub fn together(bits: u32, swapped: bool) -> Case {
+    let is = |k: u32| bits >> k & 1 == 1;
+    let size = if is(0) { (16384, 20) } else { (20, 20) };
+    let len = if is(1) { 399 } else { 20000 };
+    let mb = if is(2) { (0, 1024) } else { (0, 1) };
+    let (far, odd) = (if is(3) { 1024 } else { 0 }, if is(4) { 3 } else { 0 });
+    if swapped {
+        case(len, 20, (size.1, size.0), (mb.1, mb.0), (odd, far))
+    } else {
+        case(len, 20, size, mb, (far, odd))
     }
 }

@@ -1,7 +1,8 @@
 //! The file `samples`: pictures, then macroblocks. A plane of a case is a part of the pictures; with a stride
-//! below the width, or 0, a few bytes make a large picture. Last come macroblocks that differ from another in one row.
+//! below the width, or 0, a few bytes make a large picture. Last come macroblocks that differ from another in one row, and
+//! one that the bilinear filter makes.
 
-use crate::motion_comp::{SIXTAP_FILTERS, fetch_luma_mb_halo, sixtap_mb_luma, stored_luma_mv};
+use crate::motion_comp::{BILINEAR_FILTERS, SIXTAP_FILTERS, fetch_luma_mb_halo, sixtap_mb_luma, stored_luma_mv};
 use crate::motion_vector::Mv;
 use crate::random::Random;
 
@@ -32,7 +33,9 @@ pub const MOVED_SOURCES: usize = RAMP_SOURCES + RAMPS.len() * 256;
 pub const SEARCHED: usize = MOVED_SOURCES + MOVED.len() * 256;
 /// The first macroblock of `NOISE` with one row upside down in brightness, for each of `ROWS`.
 pub const ROW_TURNED: usize = SEARCHED;
-pub const LEN: usize = ROW_TURNED + ROWS.len() * 256;
+/// A macroblock predicted from `SMOOTH` at the macroblock (2, 2) and the vector `BLENDED` with the bilinear filter.
+pub const BLENDED_SOURCE: usize = ROW_TURNED + ROWS.len() * 256;
+pub const LEN: usize = BLENDED_SOURCE + 256;
 // What the replay has room for.
 const _: () = assert!(LEN <= 65536);
 
@@ -48,6 +51,9 @@ const AXES: [Axis; 5] = [
 
 /// The first row, one within, the last.
 pub const ROWS: [usize; 3] = [0, 7, 15];
+
+/// In quarter pixels: three quarters down, a quarter to the left.
+pub const BLENDED: (i16, i16) = (3, -1);
 
 /// Columns a sample, rows a sample, and the place of the macroblock's first sample in RISE.
 pub const RAMPS: [(usize, usize, usize); 12] = [
@@ -117,11 +123,12 @@ pub fn all() -> Vec<u8> {
         bytes.extend((0..256).map(|i| ((at + i % 16 * cols + i / 16 * rows) / 2).min(255) as u8));
     }
     for (i, (row, col)) in MOVED.into_iter().enumerate() {
-        let block = predicted(&picture, Mv { row, col });
+        let block = predicted(&picture, Mv { row, col }, &SIXTAP_FILTERS);
         let mut shaken = |b: u8| if i % 2 == 1 { b.saturating_add((random.below(9)) as u8) } else { b };
         bytes.extend(block.map(&mut shaken));
     }
     bytes.extend(ROWS.map(|row| turned(&bytes[NOISE..], row)).concat());
+    bytes.extend(predicted(&picture, Mv { row: BLENDED.0, col: BLENDED.1 }, &BILINEAR_FILTERS));
     assert_eq!(bytes.len(), LEN);
     bytes
 }
@@ -148,9 +155,9 @@ fn smooth(n: usize, random: &mut Random) -> Vec<u8> {
     (0..n * n).map(|i| stretched(mean(i / n, i % n))).collect()
 }
 
-fn predicted(picture: &[u8], mv: Mv) -> [u8; 256] {
+fn predicted(picture: &[u8], mv: Mv, filters: &[[i32; 6]; 8]) -> [u8; 256] {
     let eighths = stored_luma_mv(mv);
     let halo = fetch_luma_mb_halo(picture, 80, 80, 80, 32, 32, eighths);
     let selector = |v: i16| v.rem_euclid(8) as usize;
-    sixtap_mb_luma(&halo, selector(eighths.col), selector(eighths.row), &SIXTAP_FILTERS)
+    sixtap_mb_luma(&halo, selector(eighths.col), selector(eighths.row), filters)
 }
