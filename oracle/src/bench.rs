@@ -6,13 +6,14 @@ use crate::arnr::{ArnrConfig, ArnrPicture, build_arnr_altref};
 use crate::compare::content;
 use crate::encoder::I420Frame;
 use crate::model::{self, Luma};
-use crate::motion_comp::{SIXTAP_FILTERS, fetch_luma_mb_halo, sixtap_mb_luma};
+use crate::motion_comp::{BILINEAR_FILTERS, SIXTAP_FILTERS, fetch_luma_mb_halo, sixtap_mb_luma};
 use crate::motion_search::{self as original, LumaRef};
 use crate::motion_vector::Mv;
 use crate::paper::denoiser::Window;
 use crate::paper::search::{NO_CEILING, sad};
 use crate::refusals::packed_size;
 use crate::rows::{self, Rows, Source};
+use crate::versions;
 use std::hint::black_box;
 use std::time::{Duration, Instant};
 
@@ -30,16 +31,15 @@ pub fn run(clip: &[u8]) {
     println!("bench: Rust {build}, release, opt-level 3; both sides for baseline x86-64");
     println!("{ROUNDS} rounds, the sides alternated, warm buffers; time of a call, least and median of the rounds");
     println!("ratio = Rust's time / the model's; the Rust builder allocates its output, the model's is lent it;");
-    println!("beside a SAD up to a ceiling stands the Rust's whole SAD;");
-    println!("a percentage is the share of accepted blocks: the last builder's window is a still picture with noise");
-    println!("{:<40} {:>21} {:>21} {:>13}", "", "model", "Rust", "ratio");
     println!(
-        "{:<40} {:>10} {:>10} {:>10} {:>10} {:>6} {:>6}",
-        "", "least", "median", "least", "median", "least", "med."
+        "beside a SAD up to a ceiling stands the Rust's whole SAD, beside version 1 a copy of it that takes a version;"
     );
+    println!("a percentage is the share of accepted blocks: the last builder's window is a still picture with noise");
+    print_head("model", "Rust");
     filters();
     sads();
     searches(&moving());
+    refinements(&moving());
     diamonds("diamond, moving texture", &moving());
     diamonds("diamond, noise", &noise());
     let frames = [2, 3, 5, 7, 9, 15].map(|count| ((WIDTH, HEIGHT), count));
@@ -53,7 +53,17 @@ pub fn run(clip: &[u8]) {
         let [ours, rust] = least.map(|ns| ns / shares);
         println!("  {width}x{height}, {count:>2} frames: model {ours:.2} ns, Rust {rust:.2} ns");
     }
+    beside_six_tap(&moving());
     count_rows(clip);
+}
+
+// Above the columns of `measure`.
+fn print_head(ours: &str, other: &str) {
+    println!("{:<40} {ours:>21} {other:>21} {:>13}", "", "ratio");
+    println!(
+        "{:<40} {:>10} {:>10} {:>10} {:>10} {:>6} {:>6}",
+        "", "least", "median", "least", "median", "least", "med."
+    );
 }
 
 // Measures both sides, prints a line, and answers the least time of each.
@@ -109,20 +119,32 @@ fn shown(ns: f64) -> String {
 }
 
 fn filters() {
-    let halo: [u8; 441] = content::bytes(5, 3, 441, 21).try_into().expect("441 samples");
-    for (mx, my) in [(2, 6), (0, 6), (2, 0)] {
-        let mut block = [0; 256];
-        let mut ours = || {
-            model::sixtap_mb_luma(black_box(&halo), black_box(mx), black_box(my), &mut block);
-            *black_box(&block)
-        };
-        let rust = || {
-            let (mx, my) = (black_box(mx) as usize, black_box(my) as usize);
-            black_box(sixtap_mb_luma(black_box(&halo), mx, my, &SIXTAP_FILTERS))
-        };
-        assert_eq!(ours(), rust());
-        measure(&format!("six-tap macroblock ({mx}, {my})"), || _ = ours(), || _ = rust());
+    for at in [(2, 6), (0, 6), (2, 0)] {
+        let rust = |halo: &[u8; 441], mx, my| sixtap_mb_luma(halo, mx, my, &SIXTAP_FILTERS);
+        filter("six-tap", at, model::sixtap_mb_luma, rust);
     }
+    // the original has one call for both filters, which is handed the rows
+    let rust = |halo: &[u8; 441], mx, my| sixtap_mb_luma(halo, mx, my, &BILINEAR_FILTERS);
+    filter("bilinear", (2, 6), model::bilinear_mb_luma, rust);
+}
+
+type Filter = extern "C" fn(&[u8; 441], u32, u32, &mut [u8; 256]) -> model::Status;
+
+fn filter(name: &str, (mx, my): (u32, u32), ours: Filter, rust: impl Fn(&[u8; 441], usize, usize) -> [u8; 256]) {
+    let (halo, mut block) = (halo(), [0; 256]);
+    let mut ours = || filtered(ours, &halo, (mx, my), &mut block);
+    let rust = || black_box(rust(black_box(&halo), black_box(mx) as usize, black_box(my) as usize));
+    assert_eq!(ours(), rust());
+    measure(&format!("{name} macroblock ({mx}, {my})"), || _ = ours(), || _ = rust());
+}
+
+fn halo() -> [u8; 441] {
+    content::bytes(5, 3, 441, 21).try_into().expect("441 samples")
+}
+
+fn filtered(filter: Filter, halo: &[u8; 441], (mx, my): (u32, u32), block: &mut [u8; 256]) -> [u8; 256] {
+    filter(black_box(halo), black_box(mx), black_box(my), block);
+    *black_box(block)
 }
 
 fn reference(plane: &[u8]) -> (Luma<'_>, LumaRef<'_>) {
@@ -207,8 +229,8 @@ fn searches((plane, sources): &Scene) {
     let (luma, same) = reference(plane);
     let ours = |(mb, src): &Source| {
         let d = model::small_diamond_search_luma(luma, *mb, src, Mv::default(), 64);
-        let h = model::half_pixel_refine_luma(luma, *mb, src, Mv { row: d.row, col: d.col });
-        let q = model::quarter_pixel_refine_luma(luma, *mb, src, Mv { row: h.row, col: h.col });
+        let h = model::half_pixel_refine_luma(luma, *mb, src, Mv { row: d.row, col: d.col }, 0);
+        let q = model::quarter_pixel_refine_luma(luma, *mb, src, Mv { row: h.row, col: h.col }, 0);
         black_box((q.row, q.col, q.sad))
     };
     let rust = |(mb, src): &Source| {
@@ -220,6 +242,64 @@ fn searches((plane, sources): &Scene) {
     let least = measure_all("diamond, half, quarter, 396 macroblocks", sources, ours, rust);
     let [ours, rust] = least.map(|ns| shown(ns / 396.0));
     println!("  of that a macroblock, least: model {ours}, Rust {rust}");
+}
+
+// A macroblock and the centre of its refinement.
+type Start<'a> = (&'a Source, Mv);
+
+// Those of the half refinement, where the diamond ends, and of the quarter one after it, at version 0.
+fn starts<'a>((plane, sources): &'a Scene) -> [Vec<Start<'a>>; 2] {
+    let luma = reference(plane).0;
+    let whole = |source: &'a Source| {
+        let d = model::small_diamond_search_luma(luma, source.0, &source.1, Mv::default(), 64);
+        (source, Mv { row: d.row, col: d.col })
+    };
+    let half = |(source, mv): &Start<'a>| {
+        let h = model::half_pixel_refine_luma(luma, source.0, &source.1, *mv, 0);
+        (*source, Mv { row: h.row, col: h.col })
+    };
+    let halves: Vec<Start> = sources.iter().map(whole).collect();
+    let quarters = halves.iter().map(half).collect();
+    [halves, quarters]
+}
+
+type Refine = fn(Luma, (usize, usize), &[u8; 256], Mv, u8) -> model::Search;
+type RustRefine = fn(LumaRef, (usize, usize), &[u8; 256], Mv, u8) -> original::SearchResult;
+const HALF: (&str, Refine, RustRefine) = ("half", model::half_pixel_refine_luma, versions::half_pixel_refine_luma);
+const QUARTER: (&str, Refine, RustRefine) =
+    ("quarter", model::quarter_pixel_refine_luma, versions::quarter_pixel_refine_luma);
+
+fn refined(refine: Refine, luma: Luma, (source, mv): &Start, version: u8) -> Found {
+    let (mb, src) = (black_box(source.0), black_box(&source.1));
+    let got = black_box(refine(*black_box(&luma), mb, src, black_box(*mv), black_box(version)));
+    (got.row, got.col, got.sad)
+}
+
+// Each refinement at version 1 for each of the 396 macroblocks, beside the derived copy.
+fn refinements(scene: &Scene) {
+    let (luma, same) = reference(&scene.0);
+    for ((name, model, rust), starts) in [HALF, QUARTER].into_iter().zip(starts(scene)) {
+        let ours = |start: &Start| refined(model, luma, start, 1);
+        let rust = |(source, mv): &Start| {
+            let got = rust(*black_box(&same), source.0, black_box(&source.1), black_box(*mv), black_box(1));
+            black_box((got.mv.row, got.mv.col, got.sad))
+        };
+        measure_all(&format!("{name}, version 1, 396 macroblocks"), &starts, ours, rust);
+    }
+}
+
+// The model alone: bilinear, in the first columns, beside six-tap.
+fn beside_six_tap(scene: &Scene) {
+    println!("the model's bilinear filter beside its six-tap one, on the same macroblocks:");
+    print_head("bilinear", "six-tap");
+    let (halo, mut one, mut other) = (halo(), [0; 256], [0; 256]);
+    let bilinear = || _ = filtered(model::bilinear_mb_luma, &halo, (2, 6), &mut one);
+    measure("macroblock (2, 6)", bilinear, || _ = filtered(model::sixtap_mb_luma, &halo, (2, 6), &mut other));
+    let luma = reference(&scene.0).0;
+    for ((name, refine, _), starts) in [HALF, QUARTER].into_iter().zip(starts(scene)) {
+        let all = |version| starts.iter().for_each(|start| _ = refined(refine, luma, start, version));
+        measure(&format!("{name}, 396 macroblocks"), || all(1), || all(0));
+    }
 }
 
 // The diamond alone.
@@ -239,12 +319,7 @@ fn diamonds(name: &str, (plane, sources): &Scene) {
 type Found = (i16, i16, u32);
 
 // Both sides over all macroblocks.
-fn measure_all(
-    name: &str,
-    sources: &[Source],
-    ours: impl Fn(&Source) -> Found,
-    rust: impl Fn(&Source) -> Found,
-) -> [f64; 2] {
+fn measure_all<T>(name: &str, sources: &[T], ours: impl Fn(&T) -> Found, rust: impl Fn(&T) -> Found) -> [f64; 2] {
     assert!(sources.iter().all(|source| ours(source) == rust(source)), "{name}");
     let ours = || black_box(sources).iter().for_each(|source| _ = ours(source));
     let rust = || black_box(sources).iter().for_each(|source| _ = rust(source));

@@ -100,6 +100,8 @@ unsafe extern "C" {
     pub safe fn interp(selector: u32, support: &[u8; 6]) -> Sample;
     #[link_name = "vp8model_sixtap_mb_luma"]
     pub safe fn sixtap_mb_luma(halo: &[u8; 441], mx: u32, my: u32, block: &mut [u8; 256]) -> Status;
+    #[link_name = "vp8model_bilinear_mb_luma"]
+    pub safe fn bilinear_mb_luma(halo: &[u8; 441], mx: u32, my: u32, block: &mut [u8; 256]) -> Status;
     #[link_name = "vp8model_bad_size"]
     pub safe fn bad_size(width: usize, height: usize) -> u8;
     #[link_name = "vp8model_short_plane"]
@@ -122,7 +124,7 @@ unsafe extern "C" {
     ) -> Sad;
     fn vp8model_mb_luma_sad_at_mv(
         plane: *const u8, len: usize, stride: usize, width: usize, height: usize, mb_col: usize, mb_row: usize,
-        src_y: &[u8; 256], mv_row: i16, mv_col: i16,
+        src_y: &[u8; 256], mv_row: i16, mv_col: i16, version: u8,
     ) -> Sad;
     fn vp8model_small_diamond_search_luma(
         plane: *const u8, len: usize, stride: usize, width: usize, height: usize, mb_col: usize, mb_row: usize,
@@ -130,11 +132,11 @@ unsafe extern "C" {
     ) -> Diamond;
     fn vp8model_half_pixel_refine_luma(
         plane: *const u8, len: usize, stride: usize, width: usize, height: usize, mb_col: usize, mb_row: usize,
-        src_y: &[u8; 256], center_row: i16, center_col: i16,
+        src_y: &[u8; 256], center_row: i16, center_col: i16, version: u8,
     ) -> Search;
     fn vp8model_quarter_pixel_refine_luma(
         plane: *const u8, len: usize, stride: usize, width: usize, height: usize, mb_col: usize, mb_row: usize,
-        src_y: &[u8; 256], center_row: i16, center_col: i16,
+        src_y: &[u8; 256], center_row: i16, center_col: i16, version: u8,
     ) -> Search;
     #[link_name = "vp8model_curve"]
     pub safe fn curve(strength: u8, curve: &mut [u32; 256]);
@@ -216,26 +218,32 @@ pub fn mb_luma_sad_at_whole_mv(l: Luma, mb: (usize, usize), src: &[u8; 256], mv:
     unsafe { vp8model_mb_luma_sad_at_whole_mv(ptr, len, stride, width, height, mb.0, mb.1, src, mv.row, mv.col) }
 }
 
-pub fn mb_luma_sad_at_mv(l: Luma, mb: (usize, usize), src: &[u8; 256], mv: Mv) -> Sad {
+pub fn mb_luma_sad_at_mv(l: Luma, mb: (usize, usize), src: &[u8; 256], mv: Mv, version: u8) -> Sad {
     let Luma { plane, stride, width, height } = l;
     let (ptr, len) = (plane.as_ptr(), plane.len());
     // SAFETY: the slice and its length belong together.
-    unsafe { vp8model_mb_luma_sad_at_mv(ptr, len, stride, width, height, mb.0, mb.1, src, mv.row, mv.col) }
+    unsafe { vp8model_mb_luma_sad_at_mv(ptr, len, stride, width, height, mb.0, mb.1, src, mv.row, mv.col, version) }
 }
 
-pub fn half_pixel_refine_luma(l: Luma, mb: (usize, usize), src: &[u8; 256], center: Mv) -> Search {
-    let Luma { plane, stride, width, height } = l;
-    let (ptr, len) = (plane.as_ptr(), plane.len());
-    // SAFETY: the slice and its length belong together.
-    unsafe { vp8model_half_pixel_refine_luma(ptr, len, stride, width, height, mb.0, mb.1, src, center.row, center.col) }
-}
-
-pub fn quarter_pixel_refine_luma(l: Luma, mb: (usize, usize), src: &[u8; 256], center: Mv) -> Search {
+pub fn half_pixel_refine_luma(l: Luma, mb: (usize, usize), src: &[u8; 256], center: Mv, version: u8) -> Search {
     let Luma { plane, stride, width, height } = l;
     let (ptr, len) = (plane.as_ptr(), plane.len());
     // SAFETY: the slice and its length belong together.
     unsafe {
-        vp8model_quarter_pixel_refine_luma(ptr, len, stride, width, height, mb.0, mb.1, src, center.row, center.col)
+        vp8model_half_pixel_refine_luma(
+            ptr, len, stride, width, height, mb.0, mb.1, src, center.row, center.col, version,
+        )
+    }
+}
+
+pub fn quarter_pixel_refine_luma(l: Luma, mb: (usize, usize), src: &[u8; 256], center: Mv, version: u8) -> Search {
+    let Luma { plane, stride, width, height } = l;
+    let (ptr, len) = (plane.as_ptr(), plane.len());
+    // SAFETY: the slice and its length belong together.
+    unsafe {
+        vp8model_quarter_pixel_refine_luma(
+            ptr, len, stride, width, height, mb.0, mb.1, src, center.row, center.col, version,
+        )
     }
 }
 

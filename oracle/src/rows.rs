@@ -34,12 +34,12 @@ impl fmt::Display for Rows {
 /// A macroblock's place in its picture and its samples.
 pub type Source = ((usize, usize), [u8; 256]);
 
-/// Adds those of the diamond from (0, 0) on and of both refinements after it.
+/// Adds those of the diamond from (0, 0) on and of both refinements after it, at version 0.
 pub fn add_searches([whole, half, quarter]: &mut [Rows; 3], luma: Luma, (mb, src): &Source, limit: u32) {
     let Luma { plane: bytes, stride, width, height } = luma;
     let plane = Plane { bytes, stride, width, height };
     let measured = |rows: &mut Rows, mv: Mv, ceiling: u32| {
-        let block = predicted(&plane, *mb, mv);
+        let block = predicted(&plane, *mb, mv, 0);
         let got = model::block_sad_16x16_up_to(src, block[..].try_into().expect("256 samples"), ceiling);
         rows.add(got.rows, 16);
         got.sad
@@ -49,11 +49,11 @@ pub fn add_searches([whole, half, quarter]: &mut [Rows; 3], luma: Luma, (mb, src
     let (mv, counts) = (Mv { row: d.row, col: d.col }, (d.sads.into(), d.rounds.into()));
     assert_eq!((found.mv, found.sad, (found.sads, found.rounds)), (mv, d.sad, counts), "the diamond");
     let found = refine(|mv, ceiling| measured(half, mv, ceiling), 2, mv);
-    let h = model::half_pixel_refine_luma(luma, *mb, src, mv);
+    let h = model::half_pixel_refine_luma(luma, *mb, src, mv, 0);
     let mv = Mv { row: h.row, col: h.col };
     assert_eq!(found, (mv, h.sad), "the half refinement");
     let found = refine(|mv, ceiling| measured(quarter, mv, ceiling), 1, mv);
-    let q = model::quarter_pixel_refine_luma(luma, *mb, src, mv);
+    let q = model::quarter_pixel_refine_luma(luma, *mb, src, mv, 0);
     assert_eq!(found, (Mv { row: q.row, col: q.col }, q.sad), "the quarter refinement");
 }
 

@@ -1,7 +1,8 @@
 //! The model beside the originals, at scale: inputs drawn from a seed, every answer compared.
 //!
-//! Where document 01 refuses, the expected number and values come from refusals.rs, and every lent slice must
-//! hold what it held; elsewhere the originals' answer decides, with the counts of counts.rs.
+//! Where a call is refused, the expected number and values come from refusals.rs, and every lent slice must
+//! hold what it held; elsewhere the originals' answer decides, with the counts of counts.rs, and at a version that of
+//! versions.rs.
 
 mod answer;
 mod builds;
@@ -31,17 +32,19 @@ struct Run {
 }
 
 /// A wrong expectation, so that the report of a difference can be tried: of what a call says, the number at a place is
-/// expected one less where a number of the input is above 20.
+/// expected one less where a number of the input is above another.
 struct Plant {
     word: &'static str,
     call: &'static str,
     number: &'static str,
+    above: i128,
     place: usize,
 }
 
-static PLANTS: [Plant; 2] = [
-    Plant { word: "--plant", call: "small_diamond_search_luma", number: "width", place: 2 },
-    Plant { word: "--plant-rows", call: "block_sad_16x16_up_to", number: "ceiling", place: 1 },
+static PLANTS: [Plant; 3] = [
+    Plant { word: "--plant", call: "small_diamond_search_luma", number: "width", above: 20, place: 2 },
+    Plant { word: "--plant-rows", call: "block_sad_16x16_up_to", number: "ceiling", above: 20, place: 1 },
+    Plant { word: "--plant-version", call: "quarter_pixel_refine_luma", number: "version", above: 0, place: 2 },
 ];
 
 /// Runs the comparison; whether every answer was the same. None where the words are not understood.
@@ -89,7 +92,7 @@ fn parsed(words: &[&str]) -> Option<Run> {
 fn kinds() -> Vec<&'static Kind> {
     static DEFAULT: Kind = numbers::DEFAULT;
     static NUMBERS: [Kind; 14] = numbers::KINDS;
-    static PLANES: [Kind; 11] = planes::KINDS;
+    static PLANES: [Kind; 12] = planes::KINDS;
     static BUILDS: [Kind; 5] = builds::KINDS;
     std::iter::once(&DEFAULT).chain(&NUMBERS).chain(&PLANES).chain(&BUILDS).collect()
 }
@@ -101,7 +104,8 @@ fn answers(input: &Input, plant: Option<&Plant>) -> Pair {
         let faults = vec![format!("the original panicked: {cause}")];
         Pair { model: Answer::default(), expected: Answer { faults, ..Answer::default() } }
     });
-    let planted = plant.filter(|p| p.call == input.kind.name && pair.expected.refusal == 0 && input.get(p.number) > 20);
+    let accepted = pair.expected.refusal == 0;
+    let planted = plant.filter(|p| p.call == input.kind.name && accepted && input.get(p.number) > p.above);
     if let Some(plant) = planted {
         pair.expected.said[plant.place] -= 1;
     }
@@ -122,7 +126,7 @@ fn report(run: Run, index: u64, input: Input) {
 struct Tally {
     kinds: Vec<&'static Kind>,
     counts: Vec<[u64; 2]>,
-    refused: [u64; 14],
+    refused: [u64; 24],
     done: u64,
     last: Instant,
 }
@@ -131,7 +135,7 @@ impl Tally {
     fn new() -> Tally {
         let kinds = kinds();
         let counts = vec![[0; 2]; kinds.len()];
-        Tally { kinds, counts, refused: [0; 14], done: 0, last: Instant::now() }
+        Tally { kinds, counts, refused: [0; 24], done: 0, last: Instant::now() }
     }
 
     fn add(&mut self, input: &Input, pair: &Pair) {
@@ -152,7 +156,8 @@ impl Tally {
         for (kind, [accepted, refused]) in self.kinds.iter().zip(&self.counts) {
             println!("  {:<28} {accepted:>7} accepted {refused:>7} refused", kind.name);
         }
-        let by_number: Vec<String> = (1..14).map(|number| format!("{number}: {}", self.refused[number])).collect();
+        let numbers = (1..14).chain([23]);
+        let by_number: Vec<String> = numbers.map(|number| format!("{number}: {}", self.refused[number])).collect();
         println!("  refusals by number: {}", by_number.join(", "));
     }
 }

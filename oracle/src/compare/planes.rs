@@ -5,19 +5,25 @@ use super::guarded::Guarded;
 use super::input::{Drawn, Input, Kind};
 use super::numbers::{component, side};
 use super::{ceilings, content};
-use crate::motion_comp::{self, SIXTAP_FILTERS};
+use crate::motion_comp::{self, BILINEAR_FILTERS, SIXTAP_FILTERS};
 use crate::motion_search::{self as original, LumaRef};
 use crate::motion_vector::Mv;
 use crate::paper::Plane;
 use crate::random::Random;
 use crate::refusals::{self, Place};
-use crate::{counts, model};
+use crate::{counts, model, versions};
 
+const FILTER: &[&str] = &["mx", "my", "content", "content_seed"];
 const FETCH: &[&str] = &["content", "content_seed", "len", "stride", "width", "height", "x", "y", "mv_row", "mv_col"];
 #[rustfmt::skip]
 const SEARCH: &[&str] = &[
     "content", "content_seed", "len", "stride", "width", "height", "mb_col", "mb_row", "mv_row", "mv_col",
     "source", "source_seed",
+];
+#[rustfmt::skip]
+const VERSIONED: &[&str] = &[
+    "content", "content_seed", "len", "stride", "width", "height", "mb_col", "mb_row", "mv_row", "mv_col",
+    "source", "source_seed", "version",
 ];
 #[rustfmt::skip]
 const DIAMOND: &[&str] = &[
@@ -26,11 +32,11 @@ const DIAMOND: &[&str] = &[
 ];
 
 #[rustfmt::skip]
-pub const KINDS: [Kind; 11] = [
+pub const KINDS: [Kind; 12] = [
     Kind { name: "interp", weight: 40, fields: &["selector", "support_seed", "levels"], draw: draw_interp,
            answers: answer_interp },
-    Kind { name: "sixtap_mb_luma", weight: 70, fields: &["mx", "my", "content", "content_seed"], draw: draw_sixtap,
-           answers: answer_sixtap },
+    Kind { name: "sixtap_mb_luma", weight: 70, fields: FILTER, draw: draw_filter, answers: answer_sixtap },
+    Kind { name: "bilinear_mb_luma", weight: 70, fields: FILTER, draw: draw_filter, answers: answer_bilinear },
     Kind { name: "fetch_luma_mb_whole_pixel", weight: 75, fields: FETCH, draw: draw_fetch, answers: answer_whole },
     Kind { name: "fetch_luma_mb_halo", weight: 75, fields: FETCH, draw: draw_fetch, answers: answer_halo },
     Kind { name: "block_sad_16x16", weight: 50, fields: &["src", "src_seed", "pred", "pred_seed"], draw: draw_pair,
@@ -39,12 +45,13 @@ pub const KINDS: [Kind; 11] = [
            answers: ceilings::answer },
     Kind { name: "mb_luma_sad_at_whole_mv", weight: 90, fields: SEARCH, draw: |r| draw_search(r, 4),
            answers: answer_whole_sad },
-    Kind { name: "mb_luma_sad_at_mv", weight: 90, fields: SEARCH, draw: |r| draw_search(r, 1), answers: answer_sad },
+    Kind { name: "mb_luma_sad_at_mv", weight: 120, fields: VERSIONED, draw: |r| draw_versioned(r, 1),
+           answers: answer_sad },
     Kind { name: "small_diamond_search_luma", weight: 120, fields: DIAMOND, draw: draw_diamond,
            answers: answer_diamond },
-    Kind { name: "half_pixel_refine_luma", weight: 80, fields: SEARCH, draw: |r| draw_search(r, 4),
+    Kind { name: "half_pixel_refine_luma", weight: 110, fields: VERSIONED, draw: |r| draw_versioned(r, 4),
            answers: answer_half },
-    Kind { name: "quarter_pixel_refine_luma", weight: 80, fields: SEARCH, draw: |r| draw_search(r, 2),
+    Kind { name: "quarter_pixel_refine_luma", weight: 110, fields: VERSIONED, draw: |r| draw_versioned(r, 2),
            answers: answer_quarter },
 ];
 
@@ -65,7 +72,7 @@ fn draw_content(random: &mut Random) -> [i128; 2] {
     [random.below(content::KINDS).into(), random.below(1 << 32).into()]
 }
 
-fn draw_sixtap(random: &mut Random) -> Drawn {
+fn draw_filter(random: &mut Random) -> Drawn {
     let [content, seed] = draw_content(random);
     (vec![selector(random), selector(random), content, seed], vec![])
 }
@@ -142,6 +149,14 @@ fn draw_search(random: &mut Random, grid: i16) -> Drawn {
     (all, vec![])
 }
 
+// A version, one that is refused in a few.
+fn draw_versioned(random: &mut Random, grid: i16) -> Drawn {
+    let (mut all, list) = draw_search(random, grid);
+    let legal = random.below(3);
+    all.push(if random.percent(94) { legal } else { random.pick(&[3, 255]) }.into());
+    (all, list)
+}
+
 fn draw_diamond(random: &mut Random) -> Drawn {
     let (mut all, list) = draw_search(random, 1);
     let few = random.below(20) as u32;
@@ -168,16 +183,27 @@ fn answer_interp(input: &Input) -> Pair {
 }
 
 fn answer_sixtap(input: &Input) -> Pair {
+    filtered(input, model::sixtap_mb_luma, &SIXTAP_FILTERS)
+}
+
+fn answer_bilinear(input: &Input) -> Pair {
+    filtered(input, model::bilinear_mb_luma, &BILINEAR_FILTERS)
+}
+
+type Filter = extern "C" fn(&[u8; 441], u32, u32, &mut [u8; 256]) -> model::Status;
+
+// Both filters of a macroblock; the original has one call, which is handed the rows.
+fn filtered(input: &Input, filter: Filter, rows: &[[i32; 6]; 8]) -> Pair {
     let samples = content::bytes(input.get("content") as u64, input.get("content_seed") as u64, 441, 21);
     let (mx, my) = (input.get("mx") as u32, input.get("my") as u32);
     let halo = Guarded::holding(&samples, input.salt);
     let mut block = Guarded::<u8>::noise(256, input.salt ^ 1);
     let mut wanted = *block.array::<256>();
-    let got = model::sixtap_mb_luma(halo.array(), mx, my, block.array_mut());
+    let got = filter(halo.array(), mx, my, block.array_mut());
     let model = Answer::new(got.refusal.into(), &[]).constant("halo", &halo).written("block", &block);
     let refusal = refusals::of_selectors(&[mx, my]);
     if refusal == 0 {
-        wanted = motion_comp::sixtap_mb_luma(halo.array(), mx as usize, my as usize, &SIXTAP_FILTERS);
+        wanted = motion_comp::sixtap_mb_luma(halo.array(), mx as usize, my as usize, rows);
     }
     Pair { model, expected: Answer::new(refusal, &[]).holding(&wanted) }
 }
@@ -300,15 +326,16 @@ fn answer_whole_sad(input: &Input) -> Pair {
 }
 
 fn answer_sad(input: &Input) -> Pair {
+    let version = input.get("version") as u8;
     let model = |case: &Case, src: &[u8; 256]| {
-        let got = model::mb_luma_sad_at_mv(case.luma(), case.at, src, case.mv);
+        let got = model::mb_luma_sad_at_mv(case.luma(), case.at, src, case.mv, version);
         (got.refusal, vec![got.sad.into()])
     };
     let original = |case: &Case, src: &[u8; 256]| {
-        let (col, row) = case.at;
-        vec![original::mb_luma_sad_at_mv(case.reference(), col, row, src, case.mv).into()]
+        vec![versions::mb_luma_sad_at_mv(case.reference(), case.at, src, case.mv, version).into()]
     };
-    searched(input, refusals::of_vector, model, original)
+    let refused = |place, mv| refusals::of_version(version, refusals::of_vector(place, mv));
+    searched(input, refused, model, original)
 }
 
 fn answer_diamond(input: &Input) -> Pair {
@@ -328,29 +355,31 @@ fn answer_diamond(input: &Input) -> Pair {
 }
 
 fn answer_half(input: &Input) -> Pair {
+    let version = input.get("version") as u8;
     let model = |case: &Case, src: &[u8; 256]| {
-        let got = model::half_pixel_refine_luma(case.luma(), case.at, src, case.mv);
+        let got = model::half_pixel_refine_luma(case.luma(), case.at, src, case.mv, version);
         (got.refusal, vec![got.row.into(), got.col.into(), got.sad.into()])
     };
     let original = |case: &Case, src: &[u8; 256]| {
-        let (col, row) = case.at;
-        let got = original::half_pixel_refine_luma(case.reference(), col, row, src, case.mv);
+        let got = versions::half_pixel_refine_luma(case.reference(), case.at, src, case.mv, version);
         vec![got.mv.row.into(), got.mv.col.into(), got.sad.into()]
     };
-    searched(input, |place, mv| refusals::of_vector_on_grid(place, mv, 4), model, original)
+    let refused = |place, mv| refusals::of_version(version, refusals::of_vector_on_grid(place, mv, 4));
+    searched(input, refused, model, original)
 }
 
 fn answer_quarter(input: &Input) -> Pair {
+    let version = input.get("version") as u8;
     let model = |case: &Case, src: &[u8; 256]| {
-        let got = model::quarter_pixel_refine_luma(case.luma(), case.at, src, case.mv);
+        let got = model::quarter_pixel_refine_luma(case.luma(), case.at, src, case.mv, version);
         (got.refusal, vec![got.row.into(), got.col.into(), got.sad.into()])
     };
     let original = |case: &Case, src: &[u8; 256]| {
-        let (col, row) = case.at;
-        let got = original::quarter_pixel_refine_luma(case.reference(), col, row, src, case.mv);
+        let got = versions::quarter_pixel_refine_luma(case.reference(), case.at, src, case.mv, version);
         vec![got.mv.row.into(), got.mv.col.into(), got.sad.into()]
     };
-    searched(input, |place, mv| refusals::of_vector_on_grid(place, mv, 2), model, original)
+    let refused = |place, mv| refusals::of_version(version, refusals::of_vector_on_grid(place, mv, 2));
+    searched(input, refused, model, original)
 }
 
 #[cfg(test)]
@@ -361,7 +390,7 @@ mod tests {
     // Of the neighbours that drawn diamonds measure, many tie with the best and many are lost before their last row.
     #[test]
     fn drawn_diamonds_tie_and_lose() {
-        static ALL: [Kind; 11] = KINDS;
+        static ALL: [Kind; 12] = KINDS;
         let kind = ALL.iter().find(|kind| kind.name == "small_diamond_search_luma").expect("a kind of the list");
         let (mut tried, mut tied, mut lost) = (0, 0, 0);
         for input in (0..500).map(|index| Input::draw(&[kind], 6386, index)) {
@@ -371,7 +400,7 @@ mod tests {
             }
             let source = case.source(&input);
             let cost = |mv, ceiling| {
-                let block = predicted(&case.paper(), case.at, mv);
+                let block = predicted(&case.paper(), case.at, mv, 0);
                 let (value, rows) = sad_up_to(&source, &block, 16, ceiling);
                 tried += u32::from(ceiling < NO_CEILING);
                 tied += u32::from(sad(&source, &block) == ceiling);
