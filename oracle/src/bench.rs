@@ -290,7 +290,7 @@ fn refinements(scene: &Scene) {
 
 // The model alone: bilinear, in the first columns, beside six-tap.
 fn beside_six_tap(scene: &Scene) {
-    println!("the model's bilinear filter beside its six-tap one, on the same macroblocks:");
+    println!("the model's bilinear filter beside its six-tap one; ratio = six-tap's time / bilinear's:");
     print_head("bilinear", "six-tap");
     let (halo, mut one, mut other) = (halo(), [0; 256], [0; 256]);
     let bilinear = || _ = filtered(model::bilinear_mb_luma, &halo, (2, 6), &mut one);
