@@ -2,7 +2,8 @@
  * The model's bilinear macroblock beside libvpx's: every pair of selectors on each halo. The forms are declared here, as
  * no header of libvpx does. A macroblock begins at row and column 2 of its halo.
  *
- * Prints a line for each form, `peer: NAME: N macroblocks compared, M differ`, after the first difference of it.
+ * Prints a line for each form, `peer: NAME: N macroblocks compared, M differ`, after the first difference of it, and one
+ * for all.
  * Exit status: 0 none differ; 1 some do; 3 the processor lacks SSSE3, and that form was left out.
  */
 #include "vp8model.h"
@@ -20,6 +21,8 @@ form vp8_bilinear_predict16x16_ssse3;
 #define SEEDS 48
 #define KINDS 7
 
+static unsigned all;
+static unsigned all_differing;
 static uint64_t state;
 
 static unsigned below(unsigned n)
@@ -81,8 +84,13 @@ static int differs(form *f, uint8_t halo[SIDE * SIDE], unsigned mx, unsigned my)
     return vp8model_bilinear_mb_luma(halo, mx, my, ours).refusal != 0 || memcmp(ours, theirs, sizeof ours) != 0;
 }
 
-/* How many macroblocks differ, at the pairs of selectors from `first` on. */
-static unsigned compare(const char *name, form *f, unsigned first)
+static void print(const char *name, unsigned compared, unsigned differing)
+{
+    printf("peer: %s: %u macroblocks compared, %u differ\n", name, compared, differing);
+}
+
+/* Each halo at the pairs of selectors from `first` on. */
+static void compare(const char *name, form *f, unsigned first)
 {
     uint8_t halo[SIDE * SIDE];
     unsigned compared = 0, differing = 0;
@@ -97,19 +105,21 @@ static unsigned compare(const char *name, form *f, unsigned first)
             differing++;
         }
     }
-    printf("peer: %s: %u macroblocks compared, %u differ\n", name, compared, differing);
-    return differing;
+    print(name, compared, differing);
+    all += compared;
+    all_differing += differing;
 }
 
 int main(void)
 {
-    unsigned differing = compare("C", vp8_bilinear_predict16x16_c, 0);
-    differing += compare("SSE2", vp8_bilinear_predict16x16_sse2, 0);
+    compare("C", vp8_bilinear_predict16x16_c, 0);
+    compare("SSE2", vp8_bilinear_predict16x16_sse2, 0);
     const int last = __builtin_cpu_supports("ssse3");
     /* libvpx copies at (0, 0), and calls no form; this one gives another macroblock there */
     if (last)
-        differing += compare("SSSE3", vp8_bilinear_predict16x16_ssse3, 1);
+        compare("SSSE3", vp8_bilinear_predict16x16_ssse3, 1);
     else
         printf("peer: skipped: the form SSSE3, which this processor lacks\n");
-    return differing > 0 ? 1 : last ? 0 : 3;
+    print("all", all, all_differing);
+    return all_differing > 0 ? 1 : last ? 0 : 3;
 }
