@@ -165,7 +165,8 @@ pub extern "C" fn vp8model_half_pixel_refine_luma(
     ensures { λ r.
         ⌜ r
         ≡ searchNumbers (firstOf (refineLines version 4 (lumaPlane (now (plane .entry)) stride width height) «mb_col» «mb_row» (mvOf «center_row» «center_col»))
-        (refine (costIn (rowsFor version) (lumaPlane (now (plane .entry)) stride width height) «mb_col» «mb_row» (now («src_y» .entry))) 2 (mvOf «center_row» «center_col»)))
+        (refine (costIn (rowsFor version) (lumaPlane (now (plane .entry)) stride width height) «mb_col» «mb_row» (now («src_y» .entry)))
+        2 (mvOf «center_row» «center_col»)))
         ⌝ }
 {
     let whole_pixel_center = Mv {
@@ -202,7 +203,8 @@ pub extern "C" fn vp8model_quarter_pixel_refine_luma(
     ensures { λ r.
         ⌜ r
         ≡ searchNumbers (firstOf (refineLines version 2 (lumaPlane (now (plane .entry)) stride width height) «mb_col» «mb_row» (mvOf «center_row» «center_col»))
-        (refine (costIn (rowsFor version) (lumaPlane (now (plane .entry)) stride width height) «mb_col» «mb_row» (now («src_y» .entry))) 1 (mvOf «center_row» «center_col»)))
+        (refine (costIn (rowsFor version) (lumaPlane (now (plane .entry)) stride width height) «mb_col» «mb_row» (now («src_y» .entry)))
+        1 (mvOf «center_row» «center_col»)))
         ⌝ }
 {
     let half_pixel_center = Mv {

@@ -1,14 +1,14 @@
 -- `refine_luma` meets its contract. Assumes nothing.
 use mathlib.Core.Path.{_≡_, sym, ap, _∙_}
 use mathlib.Core.List.{[]}
-use Prim.Native.Nat.{_*_}
+use Prim.Native.Nat.{ℕ, _*_}
 use borrow.Author.Needs.{needs}
-use Rattle.laws.specs.Outcome.{accepted}
+use Rattle.laws.specs.Outcome.{refused, accepted, firstOf}
 use Rattle.prediction.specs.declared.motion_comp.FilterSet.{FilterSet}
-use Rattle.prediction.specs.Filter.{tapsOf}
+use Rattle.prediction.specs.Filter.{tapsOf, rowsFor}
 use Rattle.search.specs.Search.{refine}
-use Rattle.search.specs.Refusals.{sadOutcome}
-use Rattle.search.specs.Internal.{costBy}
+use Rattle.search.specs.Refusals.{refineLines, sadOutcome}
+use Rattle.search.specs.Internal.{planeOf, costBy}
 use Rattle.search.proofs.Accepted.{hit, pass, also-refused, also-accepted}
 use Rattle.search.proofs.Checks.{linesOf, none-applies, ready}
 use Rattle.search.proofs.Refine.{step-room}
@@ -81,53 +81,39 @@ returns-2 c =
     ∙ also-accepted (linesOf (2 * a .step) (a .plane .now) (a .s) (a .center)) _
     (none-applies (2 * a .step) (a .plane .now) (a .s) (a .center) (e .result) _ (e .ensures) (t .enum-told .given .1)))
 
-returns-3 : tie.Need-returns-3
-returns-3 c =
-    let i = c .before .before .before in
+-- what `checked` refuses is refused with its number
+refused-by : (k : tie.After-checked) (n : ℕ) → sadOutcome (k .checked .result) ≡ refused n []
+    → refused n []
+    ≡ firstOf (refineLines (k .before .before .before .before .before .args .version) (2 * k .before .before .before .before .before .args .step)
+    (planeOf (k .before .before .before .before .before .args .plane .now) (k .before .before .before .before .before .args .s))
+    (k .before .before .before .before .before .args .s .column) (k .before .before .before .before .before .args .s .row)
+    (k .before .before .before .before .before .args .center))
+    (refine (costBy (rowsFor (k .before .before .before .before .before .args .version)) (k .before .before .before .before .before .args .plane .now)
+    (k .before .before .before .before .before .args .s) (k .before .before .before .before .before .args .src .now))
+    (k .before .before .before .before .before .args .step) (k .before .before .before .before .before .args .center))
+refused-by k n e =
+    let i = k .before in
     let a = i .before .before .before .before .args in
     pass _ _ _ _ (sym (i .before .bad-version .ensures) ∙ i .if1 .left)
-    (also-refused (linesOf (2 * a .step) (a .plane .now) (a .s) (a .center)) 0 _ 8 []
-    (sym (c .before .before .checked .ensures) ∙ ap sadOutcome (c .enum-told2 .given .1)))
+    (also-refused (linesOf (2 * a .step) (a .plane .now) (a .s) (a .center)) 0 _ n [] (sym (k .checked .ensures) ∙ e))
+
+returns-3 : tie.Need-returns-3
+returns-3 c = refused-by (c .before .before) 8 (ap sadOutcome (c .enum-told2 .given .1))
 
 returns-4 : tie.Need-returns-4
-returns-4 c =
-    let i = c .before .before .before in
-    let a = i .before .before .before .before .args in
-    pass _ _ _ _ (sym (i .before .bad-version .ensures) ∙ i .if1 .left)
-    (also-refused (linesOf (2 * a .step) (a .plane .now) (a .s) (a .center)) 0 _ 9 []
-    (sym (c .before .before .checked .ensures) ∙ ap sadOutcome (c .enum-told3 .given .1)))
+returns-4 c = refused-by (c .before .before) 9 (ap sadOutcome (c .enum-told3 .given .1))
 
 returns-5 : tie.Need-returns-5
-returns-5 c =
-    let i = c .before .before .before in
-    let a = i .before .before .before .before .args in
-    pass _ _ _ _ (sym (i .before .bad-version .ensures) ∙ i .if1 .left)
-    (also-refused (linesOf (2 * a .step) (a .plane .now) (a .s) (a .center)) 0 _ 10 []
-    (sym (c .before .before .checked .ensures) ∙ ap sadOutcome (c .enum-told4 .given .1)))
+returns-5 c = refused-by (c .before .before) 10 (ap sadOutcome (c .enum-told4 .given .1))
 
 returns-6 : tie.Need-returns-6
-returns-6 c =
-    let i = c .before .before .before in
-    let a = i .before .before .before .before .args in
-    pass _ _ _ _ (sym (i .before .bad-version .ensures) ∙ i .if1 .left)
-    (also-refused (linesOf (2 * a .step) (a .plane .now) (a .s) (a .center)) 0 _ 11 []
-    (sym (c .before .before .checked .ensures) ∙ ap sadOutcome (c .enum-told5 .given .1)))
+returns-6 c = refused-by (c .before .before) 11 (ap sadOutcome (c .enum-told5 .given .1))
 
 returns-7 : tie.Need-returns-7
-returns-7 c =
-    let i = c .before .before .before in
-    let a = i .before .before .before .before .args in
-    pass _ _ _ _ (sym (i .before .bad-version .ensures) ∙ i .if1 .left)
-    (also-refused (linesOf (2 * a .step) (a .plane .now) (a .s) (a .center)) 0 _ 12 []
-    (sym (c .before .before .checked .ensures) ∙ ap sadOutcome (c .enum-told6 .given .1)))
+returns-7 c = refused-by (c .before .before) 12 (ap sadOutcome (c .enum-told6 .given .1))
 
 returns-8 : tie.Need-returns-8
-returns-8 c =
-    let i = c .before .before .before in
-    let a = i .before .before .before .before .args in
-    pass _ _ _ _ (sym (i .before .bad-version .ensures) ∙ i .if1 .left)
-    (also-refused (linesOf (2 * a .step) (a .plane .now) (a .s) (a .center)) 0 _ 23 []
-    (sym (c .before .before .checked .ensures) ∙ ap sadOutcome (c .enum-told7 .given .1)))
+returns-8 c = refused-by (c .before .before) 23 (ap sadOutcome (c .enum-told7 .given .1))
 
 pub refine-luma-spec : {M : Type 1} → statement M
 refine-luma-spec =
