@@ -1,6 +1,6 @@
 /*
  * The model's bilinear macroblock beside libvpx's: every pair of selectors on each halo. The forms are declared here, as
- * no header of libvpx does. A macroblock begins at row and column 2 of its halo.
+ * no header that libvpx installs does. A macroblock begins at row and column 2 of its halo.
  *
  * Prints a line for each form, `peer: NAME: N macroblocks compared, M differ`, after the first difference of it, and one
  * for all.

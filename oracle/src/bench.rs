@@ -32,7 +32,7 @@ pub fn run(clip: &[u8]) {
     println!("{ROUNDS} rounds, the sides alternated, warm buffers; time of a call, least and median of the rounds");
     println!("ratio = Rust's time / the model's; the Rust builder allocates its output, the model's is lent it;");
     println!(
-        "beside a SAD up to a ceiling stands the Rust's whole SAD, beside version 1 a copy of it that takes a version;"
+        "beside a SAD up to a ceiling stands the Rust's whole SAD, beside version 1 a copy of the Rust's searches;"
     );
     println!("a percentage is the share of accepted blocks: the last builder's window is a still picture with noise");
     print_head("model", "Rust");

@@ -27,8 +27,8 @@ mean-law s sample h = omega (arith, sample-16 s (sample 2) h, next-16 s (sample 
 
 -- eighths of two samples lie between them
 module _ (s x y : ℕ) (h : s ≤ 8) where
-  weighed : (n : ℕ) → (8 - s) * n + s * n ≡ 8 * n
-  weighed n =
+  of-eight : (n : ℕ) → (8 - s) * n + s * n ≡ 8 * n
+  of-eight n =
       let e : 8 - s + s ≡ 8 = omega arith in
       rw e at (sym (add-mul (8 - s) s n))
 
@@ -36,13 +36,13 @@ module _ (s x y : ℕ) (h : s ≤ 8) where
   not-less =
       let a : (8 - s) * min x y ≤ (8 - s) * x = mul-le-mul {n₂ = 8 - s} {m₂ = x} (omega arith) (omega arith) in
       let b : s * min x y ≤ s * y = mul-le-mul {n₂ = s} {m₂ = y} (omega arith) (omega arith) in
-      omega (arith, weighed (min x y))
+      omega (arith, of-eight (min x y))
 
   pub not-greater : ((8 - s) * x + s * y + 4) / 8 ≤ max x y
   not-greater =
       let a : (8 - s) * x ≤ (8 - s) * max x y = mul-le-mul {n₂ = 8 - s} {m₂ = max x y} (omega arith) (omega arith) in
       let b : s * y ≤ s * max x y = mul-le-mul {n₂ = s} {m₂ = max x y} (omega arith) (omega arith) in
-      omega (arith, weighed (max x y))
+      omega (arith, of-eight (max x y))
 
 -- a bilinear sample: the two samples by eighths, between the lesser and the greater of them, and never clamped
 pub record Mean (s : ℕ) (sample : ℕ → ℕ) : Type 0 where

@@ -1,13 +1,12 @@
 -- Laws of the prediction's definitions, over any filter set and any sample function. Assumes nothing.
 use mathlib.Core.Path.{_≡_, refl, sym, ap, _∙_}
 use mathlib.Core.List.{List}
-use Prim.Native.Nat.{ℕ, zero, suc, _+_, _-_, _*_, _/_, _%_, _≤_, _<_, min}
+use Prim.Native.Nat.{ℕ, zero, suc, _+_, _*_, _/_, _%_, _<_, min}
 use native.Mathlib.Omega.{arith}
 use lib.ListN.{getD}
 use lib.IntN.{ℤ, pos, _+ℤ_, _-ℤ_, _*ℤ_}
-use Rattle.laws.specs.Signed.{above, below, floorDiv}
+use Rattle.laws.specs.Signed.{above, floorDiv}
 use Rattle.laws.proofs.Signed.{same, sum, diff}
-use Rattle.laws.specs.Tabulate.{tabulate}
 use Rattle.laws.proofs.Tabulate.{tabulate-same, getD-tabulate}
 use Rattle.prediction.specs.Samples.{clamped255}
 use Rattle.prediction.specs.Plane.{Samples, Plane, sampleAt}
@@ -106,7 +105,7 @@ filtered-halo set mx my at =
     (λ n h. predicted-same set mx my (haloSamples (haloOf at)) at (pos 0 +ℤ pos (n % 16)) (pos 0 +ℤ pos (n / 16))
     (λ i j hi hj. halo-holds at (n % 16) (n / 16) i j (omega arith) (omega arith) hi hj))
 
--- row 0 twice is a copy, of samples below 256
+-- where row 0 is the identity, row 0 twice is a copy, of samples below 256
 here : (x : ℤ) → x +ℤ pos 2 -ℤ pos 2 ≡ x
 here x = same _ _ (omega (arith, sum x (pos 2) .up, sum x (pos 2) .dn, diff (x +ℤ pos 2) (pos 2) .up, diff (x +ℤ pos 2) (pos 2) .dn))
 

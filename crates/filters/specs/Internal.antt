@@ -25,9 +25,12 @@ acrossOf set mx halo i = filteredList set mx (window halo (i / 16 * 21 + i % 16)
 abbrev pub downOf : FilterRows → ℕ → List ℕ → ℕ → ℕ
 downOf set my rows i = filteredList set my (window rows i 16)
 
--- the same for a set with two taps: the rows 2 to 18 of the 21 alone, and the vertical pass over those
+-- the same for a set with two taps: the rows 2 to 18 of the 21 alone, and the vertical pass over those, from a sample and the one below it
 abbrev pub innerAcross : FilterRows → ℕ → List ℕ → ℕ → ℕ
 innerAcross set mx halo i = acrossOf set mx halo (i + 32)
 
+abbrev pub pairOf : List ℕ → ℕ → List ℕ
+pairOf rows i = 0 ∷ 0 ∷ getD rows i 0 ∷ getD rows (i + 16) 0 ∷ 0 ∷ 0 ∷ []
+
 abbrev pub innerDown : FilterRows → ℕ → List ℕ → ℕ → ℕ
-innerDown set my rows i = filteredList set my (0 ∷ 0 ∷ getD rows i 0 ∷ getD rows (i + 16) 0 ∷ 0 ∷ 0 ∷ [])
+innerDown set my rows i = filteredList set my (pairOf rows i)

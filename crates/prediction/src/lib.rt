@@ -1,5 +1,5 @@
-// Vectors and samples; and, under specs/, the definitions of VP8's luma prediction. The filters' code stands in the crate `sixtap`, the
-// fetches' in `fetch`.
+// Vectors and samples; and, under specs/, the definitions of VP8's luma prediction. The filters' code stands in the crates `sixtap`
+// and `bilinear`, the fetches' in `fetch`.
 pub mod ceiling;
 pub mod inverse_transform;
 pub mod motion_comp;

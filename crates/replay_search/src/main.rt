@@ -1,5 +1,5 @@
-// Replays the stored answers of the Rust originals, the refusals, and the second implementation's SADs with a ceiling on
-// the crate `motion_search`, and prints how many cases it compared and how many differ, by call.
+// Replays the stored answers of the Rust originals, the refusals, and the second implementation's SADs with a ceiling and answers at
+// versions 1 and 2 on the crate `motion_search`, and prints how many cases it compared and how many differ, by call.
 // The layout of `samples` and `cases` is written in oracle/src/search/mod.rs.
 mod calls;
 mod header;

@@ -21,9 +21,10 @@ use Rattle.sixtap.proofs.Sizes.{sixtap-whole}
 use Rattle.bilinear.proofs.Mean.{bilinear-whole}
 use Rattle.search.specs.Sad.{sad16, costIn, costOf}
 use Rattle.search.specs.Search.{diamond}
+use Rattle.search.specs.declared.SearchResult.{SearchResult}
 use Rattle.search.specs.declared.SadAnswer.the-variants as sad
 use Rattle.search.specs.declared.SearchAnswer.the-variants as search
-use Rattle.search.specs.Refusals.{anySadLines, refineLines, sadOutcome, searchOutcome}
+use Rattle.search.specs.Refusals.{vectorLines, gridLines, anySadLines, refineLines, sadOutcome, searchOutcome}
 use Rattle.search.specs.Internal.{Copied}
 use Rattle.search.proofs.Grid.{whole-copied}
 use Rattle.search.proofs.SadLaws.{copied-mb}
@@ -44,6 +45,14 @@ module _ {A : Type 0} (ls : List Line) (answer : FilterRows → A) where
 
   pub always-23 : (version : ℕ) → 2 < version → firstOf (versionLines version ++ ls) (answer (rowsFor version)) ≡ refused 23 []
   always-23 version h = simp (lt-ltb 2 version h)
+
+pub any-sad-no-23 : (version : ℕ) (p : Plane) (column row : ℕ) (mv : Mv) (cost : FilterRows → ℕ) (v : List ℕ) → version ≤ 2
+    → firstOf (anySadLines version p column row mv) (cost (rowsFor version)) ≡ refused 23 v → ⊥
+any-sad-no-23 version p column row mv cost v h = no-23 (vectorLines p column row mv) cost version v h refl
+
+pub refine-no-23 : (version n : ℕ) (p : Plane) (column row : ℕ) (mv : Mv) (found : FilterRows → SearchResult) (v : List ℕ) → version ≤ 2
+    → firstOf (refineLines version n p column row mv) (found (rowsFor version)) ≡ refused 23 v → ⊥
+refine-no-23 version n p column row mv found v h = no-23 (gridLines n p column row mv) found version v h refl
 
 -- row 0 is the identity in either set
 pub taps-whole : (set : FilterSet) → Identity (tapsOf set)

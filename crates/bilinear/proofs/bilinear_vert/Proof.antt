@@ -1,14 +1,13 @@
 -- `bilinear_vert` meets its contract. Assumes nothing.
 use borrow.Author.Needs.{needs}
 use native.Mathlib.Omega.{arith}
-use Prim.Native.Nat.{_-_, _+_}
-use mathlib.Core.List.{[], _∷_}
+use Prim.Native.Nat.{_-_}
 use mathlib.Core.Path.{_≡_, refl, _∙_}
-use lib.ListN.{length, getD}
+use lib.ListN.{length}
 use Rattle.laws.specs.Internal.{Filling}
 use Rattle.laws.proofs.Tabulate.{fill-start, fill-turn, fill-end}
 use Rattle.prediction.specs.Filter.{bilinear}
-use Rattle.filters.specs.Internal.{innerDown}
+use Rattle.filters.specs.Internal.{pairOf, innerDown}
 use Rattle.bilinear.proofs.Mean.{mean-list}
 use Rattle.bilinear.proofs.bilinear_vert.Statement.{statement}
 use Rattle.bilinear.proofs.bilinear_vert.Tie as tie
@@ -47,7 +46,7 @@ loop-again : tie.Need-loop-again Inv-loop μ-loop
 loop-again c =
     let l = c .before .before .loop in
     let a = c .before .before .before .args in
-    let v = c .eighths .ensures ∙ mean-list (a .s) (0 ∷ 0 ∷ getD (a .t1) (l .i) 0 ∷ getD (a .t1) (l .i + 16) 0 ∷ 0 ∷ 0 ∷ []) (c .before .before .before .pre) in
+    let v = c .eighths .ensures ∙ mean-list (a .s) (pairOf (a .t1) (l .i)) (c .before .before .before .pre) in
     (fill-turn (l .inv .0) (omega arith) v, l .inv .1)
 
 returns : tie.Need-returns Inv-loop μ-loop

@@ -4,7 +4,7 @@ use native.Mathlib.Omega.{arith}
 use Prim.Native.Nat.{_≤_, _-_, _*_}
 use mathlib.Core.Path.{_≡_, refl}
 use lib.ListN.{length}
-use Rattle.laws.proofs.Tabulate.{fill-start, fill-end, fill-at}
+use Rattle.laws.proofs.Tabulate.{fill-start, fill-end}
 use Rattle.bilinear.specs.Internal.{Copying}
 use Rattle.bilinear.proofs.Copies.{copied-at}
 use Rattle.bilinear.proofs.columns.Statement.{statement}

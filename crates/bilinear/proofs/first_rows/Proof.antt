@@ -1,14 +1,13 @@
 -- `first_rows` meets its contract. Assumes nothing.
 use borrow.Author.Needs.{needs}
 use native.Mathlib.Omega.{arith}
-use Prim.Native.Nat.{ℕ, _≤_, _<_, _-_, _+_, _*_, _/_, _%_, min}
-use mathlib.Core.List.{[], _∷_}
-use mathlib.Core.Path.{_≡_, refl, _∙_, ap}
-use lib.ListN.{length, getD}
+use Prim.Native.Nat.{_-_}
+use mathlib.Core.Path.{_≡_, refl, _∙_}
+use lib.ListN.{length}
 use Rattle.laws.specs.Internal.{Filling}
-use Rattle.laws.proofs.Tabulate.{fill-start, fill-turn, fill-end, fill-at}
+use Rattle.laws.proofs.Tabulate.{fill-start, fill-turn, fill-end}
 use Rattle.prediction.specs.Filter.{bilinear}
-use Rattle.filters.specs.Internal.{innerDown}
+use Rattle.filters.specs.Internal.{pairOf, innerDown}
 use Rattle.filters.proofs.Passes.{kept-is}
 use Rattle.bilinear.proofs.Mean.{bilinear-whole}
 use Rattle.bilinear.proofs.first_rows.Statement.{statement}
@@ -42,7 +41,7 @@ loop-again : tie.Need-loop-again Inv-loop μ-loop
 loop-again c =
     let l = c .before .before .loop in
     let rows = c .before .before .before .args .t1 in
-    let v = c .kept .ensures .1 ∙ kept-is bilinear bilinear-whole (0 ∷ 0 ∷ getD rows (l .i) 0 ∷ getD rows (l .i + 16) 0 ∷ 0 ∷ 0 ∷ []) in
+    let v = c .kept .ensures .1 ∙ kept-is bilinear bilinear-whole (pairOf rows (l .i)) in
     (fill-turn (l .inv .0) (omega arith) v, l .inv .1)
 
 returns : tie.Need-returns Inv-loop μ-loop

@@ -7,7 +7,6 @@ use lib.ListN.{length}
 use Rattle.laws.specs.Internal.{Filling}
 use Rattle.laws.proofs.Tabulate.{fill-start, fill-turn, fill-end}
 use Rattle.sixtap.specs.Internal.{sampleOf}
-use Rattle.filters.specs.Internal.{window}
 use Rattle.sixtap.specs.Internal.{down}
 use Rattle.sixtap.proofs.sixtap_vert.Statement.{statement}
 use Rattle.sixtap.proofs.sixtap_vert.Tie as tie
