@@ -34,12 +34,11 @@ pub fn whole_offset(v: i16) -> i32
     (v as i32) >> 3
 }
 
-// What the whole offset leaves, 0 to 7.
+// What the whole offset leaves, 0 to 7; 32768, a multiple of 8, keeps the sum from falling below 0.
 pub fn fraction(v: i16) -> u32
     ensures { λ r. ⌜ r ≡ fractionOf v ⌝ }
 {
-    let q = whole_offset(v);
-    ((v as i32) - q * 8) as u32
+    (((v as i32) + 32768) as u32) % 8
 }
 
 // Which rows a frame uses.
