@@ -1,6 +1,5 @@
 -- `fraction` meets its contract: 32768, a multiple of 8, changes nothing of what 8 leaves. Assumes nothing.
 use native.Mathlib.Omega.{arith}
-use borrow.Author.Needs.{needs}
 use mathlib.Core.Path.{_≡_}
 use Prim.Native.Nat.{ℕ, _+_, _*_, _/_, _%_, min}
 use lib.IntN.{ℤ, pos, _+ℤ_, _*ℤ_, natAbs}
