@@ -1,5 +1,6 @@
 pub mod Signed
 pub mod Tabulate
+pub mod Front
 pub mod Tables
 pub mod Sums
 pub mod Largest
