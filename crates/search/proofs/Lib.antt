@@ -11,3 +11,5 @@ pub mod Luma
 pub mod Refine
 pub mod Numbers
 pub mod Versions
+pub mod Raster
+pub mod Pictures

@@ -1,4 +1,5 @@
 pub mod Sad
 pub mod Search
 pub mod Refusals
+pub mod Picture
 pub mod Internal
