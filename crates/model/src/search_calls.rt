@@ -1,6 +1,7 @@
 // SADs and luma motion searches for C.
 use numbers::answers::Ceiled;
 use numbers::answers::Diamond;
+use numbers::answers::Picture;
 use numbers::answers::Sad;
 use numbers::answers::Search;
 use prediction::motion_vector::Mv;
@@ -12,7 +13,8 @@ ghost use Rattle.laws.specs.Ceiling.{sumUpTo, rowsMeasured};
 ghost use Rattle.search.specs.Sad.{sad16, rowSad, costIn, costOf};
 ghost use Rattle.search.specs.Search.{diamond, refine};
 ghost use Rattle.search.specs.Refusals.{placeLines, gridLines, anySadLines, refineLines};
-ghost use Rattle.numbers.specs.Answers.{mvOf, sadNumbers, ceiledNumbers, searchNumbers, diamondNumbers};
+ghost use Rattle.search.specs.Picture.{mbCount, pictureAt, lists, pictureLines};
+ghost use Rattle.numbers.specs.Answers.{mvOf, sadNumbers, ceiledNumbers, searchNumbers, diamondNumbers, Searches};
 
 #[no_mangle]
 pub extern "C" fn vp8model_block_sad_16x16_up_to(
@@ -223,4 +225,46 @@ pub extern "C" fn vp8model_quarter_pixel_refine_luma(
         version,
     );
     numbers::search_numbers(answer)
+}
+
+#[no_mangle]
+pub extern "C" fn vp8model_search_picture_luma(
+    plane: &[u8],
+    stride: usize,
+    width: usize,
+    height: usize,
+    source: &[u8],
+    source_stride: usize,
+    max_iters: u32,
+    version: u8,
+    rows: &mut [i16],
+    cols: &mut [i16],
+    sads: &mut [u32],
+) -> Picture
+    ensures { λ r.
+        ⌜ Searches
+        (firstOf (pictureLines version (lumaPlane (now (plane .entry)) stride width height) (lumaPlane (now (source .entry)) «source_stride» width height)
+        (lists (now (rows .entry)) (now (cols .entry)) (now (sads .entry))))
+        (mbCount (lumaPlane (now (plane .entry)) stride width height)))
+        (mbCount (lumaPlane (now (plane .entry)) stride width height))
+        (pictureAt (rowsFor version) (lumaPlane (now (plane .entry)) stride width height) (lumaPlane (now (source .entry)) «source_stride» width height) «max_iters»)
+        r
+        (lists (now (rows .entry)) (now (cols .entry)) (now (sads .entry)))
+        (lists (now (rows .exit)) (now (cols .exit)) (now (sads .exit)))
+        ⌝ }
+{
+    let answer = picture_search::search_picture_luma(
+        plane,
+        stride,
+        width,
+        height,
+        source,
+        source_stride,
+        max_iters,
+        version,
+        rows,
+        cols,
+        sads,
+    );
+    numbers::picture_numbers(answer)
 }

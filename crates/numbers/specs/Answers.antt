@@ -14,6 +14,8 @@ use Rattle.prediction.specs.declared.motion_comp.FilterSet.{FilterSet}
 use Rattle.prediction.specs.declared.motion_comp.FilterSet.the-variants.{Sixtap, Bilinear}
 use Rattle.search.specs.declared.SearchResult.{SearchResult}
 use Rattle.search.specs.declared.DiamondResult.{DiamondResult}
+use Rattle.search.specs.declared.picture.SearchedMb.{SearchedMb}
+use Rattle.search.specs.Picture.{Lists, PictureIs}
 use Rattle.window.specs.declared.Size.{Size}
 use Rattle.denoiser.specs.declared.Built.{Built}
 use Rattle.numbers.specs.declared.answers.Status.{Status}
@@ -23,6 +25,7 @@ use Rattle.numbers.specs.declared.answers.Sad.{Sad}
 use Rattle.numbers.specs.declared.answers.Ceiled.{Ceiled}
 use Rattle.numbers.specs.declared.answers.Search.{Search}
 use Rattle.numbers.specs.declared.answers.Diamond.{Diamond}
+use Rattle.numbers.specs.declared.answers.Picture.{Picture}
 use Rattle.numbers.specs.declared.answers.Build.{Build}
 
 -- a truth value: 1 or 0
@@ -71,6 +74,10 @@ abbrev pub diamondNumbers : Outcome DiamondResult → Diamond
 diamondNumbers (accepted b) = record { refusal = 0; row = b .mv .row; col = b .mv .col; sad = b .sad; sads = b .sads; rounds = b .rounds }
 diamondNumbers (refused k values) = record { refusal = k; row = pos 0; col = pos 0; sad = 0; sads = 0; rounds = 0 }
 
+abbrev pub pictureNumbers : Outcome ℕ → Picture
+pictureNumbers (accepted n) = record { refusal = 0; macroblocks = n }
+pictureNumbers (refused k values) = record { refusal = k; macroblocks = 0 }
+
 -- a build's numbers in order: refusal, width, height, accepted, other width, other height, frame
 abbrev pub build : ℕ → ℕ → ℕ → ℕ → ℕ → ℕ → ℕ → Build
 build k w h a ow oh g = record { refusal = k; width = w; height = h; accepted = a; «other_width» = ow; «other_height» = oh; frame = g }
@@ -96,3 +103,8 @@ checkNumbers (refused k values) = buildRefused k values
 pub record Fills (lines : List Line) (block old : List ℕ) (r : Status) (held : List ℕ) : Type 0 where
   pub status : r ≡ statusNumbers (firstOf lines block)
   pub array : held ≡ after (firstOf lines block) old block
+
+-- a search of a picture's n macroblocks, by its outcome and the search of each: the numbers, and the lists at exit
+pub record Searches (expected : Outcome ℕ) (n : ℕ) (at : ℕ → SearchedMb) (r : Picture) (old new : Lists) : Type 0 where
+  pub numbers : r ≡ pictureNumbers expected
+  pub held : PictureIs expected n at expected old new

@@ -56,6 +56,13 @@ pub struct Diamond {
     pub rounds: u32,
 }
 
+// The macroblocks of a picture that were searched.
+#[repr(C)]
+pub struct Picture {
+    pub refusal: u32,
+    pub macroblocks: u32,
+}
+
 // A builder's answer, or the values of its refusal.
 #[repr(C)]
 pub struct Build {

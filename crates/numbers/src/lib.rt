@@ -4,6 +4,7 @@ pub mod answers;
 use crate::answers::Build;
 use crate::answers::Ceiled;
 use crate::answers::Diamond;
+use crate::answers::Picture;
 use crate::answers::Sad;
 use crate::answers::Sample;
 use crate::answers::Search;
@@ -15,6 +16,7 @@ use prediction::motion_vector::Mv;
 use search::DiamondAnswer;
 use search::SadAnswer;
 use search::SearchAnswer;
+use search::picture::PictureAnswer;
 use sixtap::Interpolated;
 use window::Checked;
 use window::Refusal;
@@ -24,9 +26,10 @@ ghost use Rattle.laws.specs.Outcome.{refused};
 ghost use Rattle.sixtap.specs.Refusals.{sampleOutcome};
 ghost use Rattle.fetch.specs.Refusals.{fetchOutcome};
 ghost use Rattle.search.specs.Refusals.{sadOutcome, searchOutcome, diamondOutcome};
+ghost use Rattle.search.specs.Picture.{pictureOutcome};
 ghost use Rattle.window.specs.Refusals.{checkedOutcome, refusalOutcome};
 ghost use Rattle.denoiser.specs.Build.{buildOutcome};
-ghost use Rattle.numbers.specs.Answers.{bit, filterNumber, numberOf, vectorNumbers, sampleNumbers, sadNumbers, ceiledNumbers, searchNumbers, diamondNumbers, build, buildNumbers, checkNumbers};
+ghost use Rattle.numbers.specs.Answers.{bit, filterNumber, numberOf, vectorNumbers, sampleNumbers, sadNumbers, ceiledNumbers, searchNumbers, diamondNumbers, pictureNumbers, build, buildNumbers, checkNumbers};
 
 // A truth value as 1 or 0.
 pub fn bit_of(b: bool) -> u8
@@ -184,6 +187,33 @@ pub fn search_numbers(answer: SearchAnswer) -> Search
         SearchAnswer::OutOfRange => search_refused(11),
         SearchAnswer::OffGrid => search_refused(12),
         SearchAnswer::BadVersion => search_refused(23),
+    }
+}
+
+// A refused search of a picture.
+fn picture_refused(number: u32) -> Picture
+    ensures { λ r. ⌜ r ≡ pictureNumbers (refused number []) ⌝ }
+{
+    Picture {
+        refusal: number,
+        macroblocks: 0,
+    }
+}
+
+// The numbers of the answer to a search of a picture.
+pub fn picture_numbers(answer: PictureAnswer) -> Picture
+    ensures { λ r. ⌜ r ≡ pictureNumbers (pictureOutcome answer) ⌝ }
+{
+    match answer {
+        PictureAnswer::Searched(n) => Picture {
+            refusal: 0,
+            macroblocks: n,
+        },
+        PictureAnswer::BadSize => picture_refused(8),
+        PictureAnswer::ShortPlane => picture_refused(9),
+        PictureAnswer::ShortSource => picture_refused(14),
+        PictureAnswer::ShortList => picture_refused(15),
+        PictureAnswer::BadVersion => picture_refused(23),
     }
 }
 
