@@ -247,7 +247,8 @@ pub extern "C" fn vp8model_search_picture_luma(
         (lists (now (rows .entry)) (now (cols .entry)) (now (sads .entry))))
         (mbCount (lumaPlane (now (plane .entry)) stride width height)))
         (mbCount (lumaPlane (now (plane .entry)) stride width height))
-        (pictureAt (rowsFor version) (lumaPlane (now (plane .entry)) stride width height) (lumaPlane (now (source .entry)) «source_stride» width height) «max_iters»)
+        (pictureAt (rowsFor version) (lumaPlane (now (plane .entry)) stride width height)
+        (lumaPlane (now (source .entry)) «source_stride» width height) «max_iters»)
         r
         (lists (now (rows .entry)) (now (cols .entry)) (now (sads .entry)))
         (lists (now (rows .exit)) (now (cols .exit)) (now (sads .exit)))

@@ -131,7 +131,9 @@ fn search_mb(
     max_iters: u32,
     version: u8,
 ) -> SearchedMb
-    requires { ⌜ Placed (planeOf (now plane) s) (s .column) (s .row) × Placed (lumaPlane (now source) «source_stride» (s .width) (s .height)) (s .column) (s .row) × (version ≤ 2) ⌝ }
+    requires { ⌜ Placed (planeOf (now plane) s) (s .column) (s .row) ⌝ }
+    requires { ⌜ Placed (lumaPlane (now source) «source_stride» (s .width) (s .height)) (s .column) (s .row) ⌝ }
+    requires { ⌜ version ≤ 2 ⌝ }
     ensures { λ r.
         ⌜ r
         ≡ searchedAt (rowsFor version) (planeOf (now (plane .entry)) s) (lumaPlane (now (source .entry)) «source_stride» (s .width) (s .height))
@@ -177,7 +179,8 @@ fn search_all(
     requires { ⌜ (count ≤ length (now rows)) × (count ≤ length (now cols)) × (count ≤ length (now sads)) ⌝ }
     ensures { λ _.
         ⌜ Filled count
-        (pictureAt (rowsFor version) (lumaPlane (now (plane .entry)) stride width height) (lumaPlane (now (source .entry)) «source_stride» width height) «max_iters»)
+        (pictureAt (rowsFor version) (lumaPlane (now (plane .entry)) stride width height)
+        (lumaPlane (now (source .entry)) «source_stride» width height) «max_iters»)
         (lists (now (rows .entry)) (now (cols .entry)) (now (sads .entry)))
         (lists (now (rows .exit)) (now (cols .exit)) (now (sads .exit)))
         ⌝ }
@@ -284,9 +287,9 @@ pub fn search_picture_luma(
         (lists (now (rows .entry)) (now (cols .entry)) (now (sads .entry))))
         (mbCount (lumaPlane (now (plane .entry)) stride width height)))
         (mbCount (lumaPlane (now (plane .entry)) stride width height))
-        (pictureAt (rowsFor version) (lumaPlane (now (plane .entry)) stride width height) (lumaPlane (now (source .entry)) «source_stride» width height) «max_iters»)
-        (pictureOutcome r)
-        (lists (now (rows .entry)) (now (cols .entry)) (now (sads .entry)))
+        (pictureAt (rowsFor version) (lumaPlane (now (plane .entry)) stride width height)
+        (lumaPlane (now (source .entry)) «source_stride» width height) «max_iters»)
+        (pictureOutcome r) (lists (now (rows .entry)) (now (cols .entry)) (now (sads .entry)))
         (lists (now (rows .exit)) (now (cols .exit)) (now (sads .exit)))
         ⌝ }
 {

@@ -60,8 +60,7 @@ search-mb-requires c κs =
     let here : c .before .loop .i < mbCount (lumaPlane (a .plane .now) (a .stride) (a .width) (a .height)) = rw (sym (e .pre .1 .0)) (c .loop-test .taken) in
     let place = never-10 (lumaPlane (a .plane .now) (a .stride) (a .width) (a .height)) (p .size) (c .before .loop .i) here in (
       record { size = p .size; long = p .long; place = place },
-      record { size = p .size; long = p .also; place = place },
-      p .known,
+      (record { size = p .size; long = p .also; place = place }, p .known),
     )
 
 mul-row : tie.Need-mul-row Inv-loop μ-loop

@@ -31,7 +31,7 @@ half-search-requires c κs =
         range = ap (λ (d : DiamondResult). outOfRange (d .mv)) (w .ensures) ∙ never-11 wholeCost wholeCost (a .max-iters) .0;
         grid = ap (λ (d : DiamondResult). offGrid 4 (d .mv)) (w .ensures) ∙ never-12 wholeCost wholeCost (a .max-iters) .0;
       },
-      e .pre .2,
+      e .pre .1 .1,
     )
 
 quarter-search-requires : tie.Need-quarter-search-requires
@@ -49,7 +49,7 @@ quarter-search-requires c κs =
         range = ap (λ (r : SearchResult). outOfRange (r .mv)) is ∙ never-11 wholeCost cost (a .max-iters) .1;
         grid = ap (λ (r : SearchResult). offGrid 2 (r .mv)) is ∙ never-12 wholeCost cost (a .max-iters) .1;
       },
-      e .pre .2,
+      e .pre .1 .1,
     )
 
 add-t17 : tie.Need-add-t17
