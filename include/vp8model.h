@@ -25,10 +25,12 @@
  *  23  the version exceeds 2
  *   8  the reference width or height is 0 or above 16383
  *   9  the reference plane is shorter than (height - 1) * stride + width
+ *  14  the source plane is shorter than (height - 1) * source_stride + width
  *  10  a macroblock column or row exceeds 1023, or a fetch's pixel origin exceeds 16368 in either direction
  *  11  a component of a vector to be measured or refined is outside -1023..1023
  *  12  a component is not a multiple of 4 (whole-pixel SAD, half refinement) or of 2 (quarter refinement)
  *  13  a filter selector exceeds 7
+ *  15  a lent list has fewer entries than the picture has macroblocks
  */
 #ifndef VP8MODEL_H
 #define VP8MODEL_H
@@ -98,6 +100,12 @@ typedef struct vp8model_diamond {
     uint32_t sads;
     uint32_t rounds;
 } vp8model_diamond;
+
+/* The number of macroblocks of a picture that was searched, 1 to 1048576. */
+typedef struct vp8model_picture {
+    uint32_t refusal;
+    uint32_t macroblocks;
+} vp8model_picture;
 
 /* A frame: its size, where its planes start in the picture bytes, and the bytes from row to row. */
 typedef struct vp8model_frame {
@@ -193,6 +201,20 @@ vp8model_search vp8model_quarter_pixel_refine_luma(const uint8_t *plane, size_t 
                                                    size_t mb_row, const uint8_t src_y[256],
                                                    int16_t center_row, int16_t center_col,
                                                    uint8_t version);
+
+/* Every macroblock of a picture. Reference and source have one size and a stride each, and may be the same
+ * bytes. There are C = (width + 15) / 16 columns of macroblocks and (height + 15) / 16 rows; entry i of each
+ * list belongs to the macroblock in column i % C and row i / C. Its source block begins at (16 * column,
+ * 16 * row) of the source; past the right or bottom edge it has the nearest edge sample. The diamond starts
+ * at (0, 0) and makes at most max_iters rounds, half refinement takes its vector, quarter refinement takes
+ * that one's, and row, column and SAD of the last are written. Entries past the macroblocks are unchanged.
+ * Refusals 23, 8, 9, 14 and 15, in this order; 10 to 12 cannot occur. */
+vp8model_picture vp8model_search_picture_luma(const uint8_t *plane, size_t plane_len, size_t stride,
+                                              size_t width, size_t height, const uint8_t *source,
+                                              size_t source_len, size_t source_stride, uint32_t max_iters,
+                                              uint8_t version, int16_t *rows, size_t rows_len,
+                                              int16_t *cols, size_t cols_len, uint32_t *sads,
+                                              size_t sads_len);
 
 /* The weights of the differences 0 to 255 at a strength, one of them, the scale, and the distance bound:
  * n other frames move no sample farther. Strengths 7 to 255 are read as 6; at 0 every weight is 0. */
