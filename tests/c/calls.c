@@ -1,8 +1,9 @@
 /*
  * Calls every function of vp8model.h, accepted and refused, and holds the answers against values worked out by
  * hand from document 01, those of the SAD up to a ceiling from request 4, those of versions and bilinear rows
- * from request 10. Every slice and array is lent from between guard entries. On a refusal, and for const
- * arguments always, the lent entries are as they were.
+ * from request 10, those of whole pictures from request 1 and against the single calls. Every slice and array is
+ * lent from between guard entries. On a refusal, and for const arguments always, the lent entries are as they
+ * were.
  *
  * Prints one line, `calls: N checks, M failed`, after a line for each check that fails. C11 and C++.
  */
@@ -769,6 +770,338 @@ static void refused_versions(void)
     }
 }
 
+/* Whole pictures. The three lists stand between guards, and all of their room holds marks that no answer is. */
+
+#define LIST_MOST 1100
+#define ROW_MARK (-1234)
+#define COL_MARK 1235
+
+static int16_t mv_rows[GUARD + LIST_MOST + GUARD], mv_cols[GUARD + LIST_MOST + GUARD];
+static uint32_t mv_sads[GUARD + LIST_MOST + GUARD];
+
+static void lend_lists(void)
+{
+    for (size_t i = 0; i < GUARD + LIST_MOST + GUARD; i++) {
+        mv_rows[i] = ROW_MARK;
+        mv_cols[i] = COL_MARK;
+        mv_sads[i] = WORD_MARK;
+    }
+}
+
+/* Nothing but the first `count` lent entries of each list can have changed. */
+static int marked_from(size_t count)
+{
+    for (size_t i = 0; i < GUARD + LIST_MOST + GUARD; i++)
+        if ((i < GUARD || GUARD + count <= i)
+            && (mv_rows[i] != ROW_MARK || mv_cols[i] != COL_MARK || mv_sads[i] != WORD_MARK))
+            return 0;
+    return 1;
+}
+
+static int is_entry(size_t i, int row, int col, uint32_t sad)
+{
+    return mv_rows[GUARD + i] == row && mv_cols[GUARD + i] == col && mv_sads[GUARD + i] == sad;
+}
+
+/* The size of both planes, their strides, the limit and the version. */
+typedef struct whole {
+    size_t width;
+    size_t height;
+    size_t stride;
+    size_t source_stride;
+    uint32_t limit;
+    uint8_t version;
+} whole;
+
+static size_t macroblocks_of(whole w)
+{
+    return (w.width + 15) / 16 * ((w.height + 15) / 16);
+}
+
+/* The search of the two planes, with lists of so many entries. */
+static vp8model_picture search_picture(whole w, size_t rows, size_t cols, size_t sads)
+{
+    lend_lists();
+    vp8model_picture p = vp8model_search_picture_luma(
+        at_bytes(&plane), plane.length, w.stride, w.width, w.height, at_bytes(&source), source.length,
+        w.source_stride, w.limit, w.version, mv_rows + GUARD, rows, mv_cols + GUARD, cols, mv_sads + GUARD,
+        sads);
+    CHECK(same_bytes(&plane) && same_bytes(&source));
+    return p;
+}
+
+/* It is accepted, with lists that are longer than the picture by 0, 1 and 2 entries, and writes no others. */
+static int is_searched(whole w)
+{
+    size_t count = macroblocks_of(w);
+    vp8model_picture p = search_picture(w, count, count + 1, count + 2);
+    return p.refusal == 0 && p.macroblocks == count && marked_from(count);
+}
+
+/* It is refused and writes nothing. */
+static int is_refused(whole w, size_t rows, size_t cols, size_t sads, uint32_t refusal)
+{
+    vp8model_picture p = search_picture(w, rows, cols, sads);
+    return p.refusal == refusal && p.macroblocks == 0 && marked_from(0);
+}
+
+/* One sample in each: every vector reads the same one. */
+static void smallest_picture(void)
+{
+    lend_bytes(&plane, 1, 10);
+    lend_bytes(&source, 1, 13);
+    for (uint8_t version = 0; version <= 2; version++)
+        for (uint32_t limit = 0; limit <= 2; limit++) {
+            whole one = {1, 1, 1, 1, limit, version};
+            CHECK(is_searched(one) && is_entry(0, 0, 0, 256 * 3));
+        }
+}
+
+/* A plane of 17 by 16 whose rows are 15 zeros, then `before` and `last`; or turned, 16 by 17. */
+static void lend_two(bytes *b, uint8_t before, uint8_t last, int turned)
+{
+    lend_bytes(b, 272, 0);
+    for (size_t i = 0; i < 272; i++) {
+        size_t along = turned ? i / 16 : i % 17;
+        at_bytes(b)[i] = along == 16 ? last : along == 15 ? before : 0;
+    }
+    keep_bytes(b);
+}
+
+/* The component of a vector along which the planes do not change. There all vectors cost the same, so that a
+ * refinement that moves takes the least one: 2 less, then 1 less. */
+static int beside(int component)
+{
+    return component % 2 != 0 ? -3 : 0;
+}
+
+/* Two macroblocks. The second is cut: one column of it, or turned one row, is the picture's, and the others
+ * repeat that. */
+static void cut_picture(int turned, uint32_t limit, uint8_t version, int first, uint32_t first_sad, int second,
+                        uint32_t second_sad)
+{
+    whole lying = {17, 16, 17, 17, limit, version}, upright = {16, 17, 16, 16, limit, version};
+    lend_two(&plane, 0, 100, turned);
+    lend_two(&source, 100, 30, turned);
+    CHECK(is_searched(turned ? upright : lying));
+    CHECK(is_entry(0, turned ? first : beside(first), turned ? beside(first) : first, first_sad));
+    CHECK(is_entry(1, turned ? second : beside(second), turned ? beside(second) : second, second_sad));
+}
+
+static void cut_pictures(void)
+{
+    for (int turned = 0; turned <= 1; turned++) {
+        for (uint8_t version = 1; version <= 2; version++) {
+            /* One column to the right the first has its 100 where the source has it. The second costs 70 in each
+             * column and 30 in one that reads a 0: 1120, 1080 and 1040 a row; half a column further a sample of
+             * 50 costs 20 in between, 990; a quarter further it is 25 and costs 5, 975. */
+            cut_picture(turned, 2, version, 4, 0, -11, 16 * (2 * 30 + 5 + 13 * 70));
+            cut_picture(turned, 1, version, 4, 0, -7, 16 * (1 * 30 + 5 + 14 * 70));
+            /* The last round moves nothing: 16 columns read 0, one column more costs the same. */
+            cut_picture(turned, 17, version, 4, 0, -63, 16 * (15 * 30 + 5));
+            cut_picture(turned, UINT32_MAX, version, 4, 0, -63, 16 * (15 * 30 + 5));
+            /* No rounds: half a column to the right the sample is 50, three quarters 75. */
+            cut_picture(turned, 0, version, 3, 16 * 25, -3, 16 * (5 + 15 * 70));
+        }
+        /* Six-tap, about the edge of 0 and 100 at 11 quarters: 1 0 23 107 98 100 .. */
+        cut_picture(turned, 2, 0, 4, 0, -11, 16 * (29 + 30 + 7 + 77 + 68 + 11 * 70));
+    }
+}
+
+/* The bytes that a plane needs. */
+static size_t needed(size_t stride, size_t width, size_t height)
+{
+    return (height - 1) * stride + width;
+}
+
+/* Waves of 40 bytes with some noise, from the byte `from` of them on. */
+static void lend_waves(bytes *b, size_t length, size_t from)
+{
+    lend_bytes(b, length, 0);
+    for (size_t i = 0; i < length; i++) {
+        size_t at = from + i, wave = at % 40 < 20 ? at % 40 : 39 - at % 40;
+        at_bytes(b)[i] = (uint8_t)(9 * wave + at * at / 7 % 23);
+    }
+    keep_bytes(b);
+}
+
+/* Both planes as long as they must be, less so many bytes. */
+static void lend_planes(whole w, size_t plane_less, size_t source_less)
+{
+    lend_waves(&plane, needed(w.stride, w.width, w.height) - plane_less, 0);
+    lend_waves(&source, needed(w.source_stride, w.width, w.height) - source_less, 3);
+}
+
+/* The source block of a macroblock, cut by hand. */
+static void cut_block(whole w, size_t column, size_t row)
+{
+    lend_bytes(&block, 256, 0);
+    for (size_t i = 0; i < 256; i++) {
+        size_t x = 16 * column + i % 16, y = 16 * row + i / 16;
+        size_t last_x = w.width - 1, last_y = w.height - 1;
+        at_bytes(&block)[i] =
+            at_bytes(&source)[(y < last_y ? y : last_y) * w.source_stride + (x < last_x ? x : last_x)];
+    }
+}
+
+/* Entry i is what the three single calls give, one after the other. */
+static int is_by_single_calls(whole w, size_t i)
+{
+    size_t columns = (w.width + 15) / 16, column = i % columns, row = i / columns;
+    cut_block(w, column, row);
+    vp8model_diamond d = vp8model_small_diamond_search_luma(at_bytes(&plane), plane.length, w.stride, w.width,
+                                                            w.height, column, row, at_bytes(&block), 0, 0,
+                                                            w.limit);
+    vp8model_search h =
+        vp8model_half_pixel_refine_luma(at_bytes(&plane), plane.length, w.stride, w.width, w.height, column,
+                                        row, at_bytes(&block), d.row, d.col, w.version);
+    vp8model_search q =
+        vp8model_quarter_pixel_refine_luma(at_bytes(&plane), plane.length, w.stride, w.width, w.height, column,
+                                           row, at_bytes(&block), h.row, h.col, w.version);
+    return d.refusal == 0 && h.refusal == 0 && q.refusal == 0 && is_entry(i, q.row, q.col, q.sad);
+}
+
+/* The strides 0, below, at and above a width; both sides have each. */
+static whole with_strides(size_t width, size_t height, size_t which, uint32_t limit, uint8_t version)
+{
+    const size_t strides[4] = {0, width / 2, width, width + 5};
+    whole w = {width, height, strides[which % 4], strides[which / 4], limit, version};
+    return w;
+}
+
+static void pictures_by_single_calls(void)
+{
+    static const size_t sides[7] = {1, 15, 16, 17, 31, 32, 33};
+    static const uint32_t limits[4] = {0, 1, 64, UINT32_MAX};
+    size_t all = 0, moved = 0;
+    for (size_t size = 0; size < 49; size++)
+        for (size_t which = 0; which < 16; which++)
+            for (uint8_t version = 0; version <= 2; version++) {
+                uint32_t limit = limits[(size + which + version) % 4];
+                whole w = with_strides(sides[size % 7], sides[size / 7], which, limit, version);
+                lend_planes(w, 0, 0);
+                CHECK(is_searched(w));
+                for (size_t i = 0; i < macroblocks_of(w); i++) {
+                    CHECK(is_by_single_calls(w, i));
+                    all++;
+                    moved += is_entry(i, 0, 0, mv_sads[GUARD + i]) ? 0 : 1;
+                }
+            }
+    /* most of them move, so that vectors that were left out would show */
+    CHECK(all < 2 * moved);
+}
+
+/* The same bytes, by one stride, as reference and as source: nothing moves. */
+static void pictures_in_themselves(void)
+{
+    for (size_t which = 0; which < 4; which++)
+        for (uint8_t version = 0; version <= 2; version++) {
+            whole w = with_strides(33, 31, 5 * which, UINT32_MAX, version);
+            lend_waves(&plane, needed(w.stride, w.width, w.height), 0);
+            lend_lists();
+            vp8model_picture p = vp8model_search_picture_luma(
+                at_bytes(&plane), plane.length, w.stride, w.width, w.height, at_bytes(&plane), plane.length,
+                w.source_stride, w.limit, w.version, mv_rows + GUARD, 7, mv_cols + GUARD, 7, mv_sads + GUARD, 7);
+            CHECK(p.refusal == 0 && p.macroblocks == 6 && marked_from(6) && same_bytes(&plane));
+            for (size_t i = 0; i < 6; i++)
+                CHECK(is_entry(i, 0, 0, 0));
+        }
+}
+
+/* Each at its edge: 17 by 33 is 6 macroblocks, and the two planes have strides of their own. */
+static void refused_pictures(void)
+{
+    const whole legal = {17, 33, 17, 20, 9, 2};
+    whole w = legal;
+    lend_planes(legal, 0, 0);
+    CHECK(is_searched(legal));
+    for (int version = 3; version <= 255; version++) {
+        w.version = (uint8_t)version;
+        CHECK(is_refused(w, 6, 6, 6, 23));
+    }
+    for (int k = 0; k < 6; k++) {
+        static const size_t sizes[6][2] = {{0, 33}, {17, 0}, {16384, 33}, {17, 16384}, {SIZE_MAX, 33}, {0, 0}};
+        w = legal;
+        w.width = sizes[k][0];
+        w.height = sizes[k][1];
+        CHECK(is_refused(w, 6, 6, 6, 8));
+    }
+    CHECK(is_refused(legal, 5, 6, 6, 15));
+    CHECK(is_refused(legal, 6, 5, 6, 15));
+    CHECK(is_refused(legal, 6, 6, 5, 15));
+    CHECK(is_refused(legal, 0, 0, 0, 15));
+    lend_planes(legal, 1, 0);
+    CHECK(is_refused(legal, 6, 6, 6, 9));
+    lend_planes(legal, 0, 1);
+    CHECK(is_refused(legal, 6, 6, 6, 14));
+    /* as long as the reference's stride would ask, and 96 short of its own */
+    lend_planes(legal, 0, 96);
+    CHECK(is_refused(legal, 6, 6, 6, 14));
+    lend_bytes(&source, 0, 0);
+    CHECK(is_refused(legal, 6, 6, 6, 14));
+    lend_bytes(&plane, 0, 0);
+    CHECK(is_refused(legal, 6, 6, 6, 9));
+}
+
+/* Any of 23, 8, 9, 14 and 15 at once, a bit of `wrong` for each: the first is given. */
+static void refused_in_order(void)
+{
+    static const uint32_t order[5] = {23, 8, 9, 14, 15};
+    static const size_t sizes[3][2] = {{0, 33}, {17, 0}, {16384, 33}};
+    for (unsigned wrong = 1; wrong < 32; wrong++)
+        for (unsigned k = 0; k < 3; k++) {
+            whole w = {17, 33, 17, 20, 9, 2};
+            size_t lengths[3] = {6, 6, 6}, first = 0;
+            lend_planes(w, wrong >> 2 & 1, wrong >> 3 & 1);
+            if ((wrong & 1) != 0)
+                w.version = 3;
+            if ((wrong & 2) != 0) {
+                w.width = sizes[k][0];
+                w.height = sizes[k][1];
+            }
+            if ((wrong & 16) != 0)
+                lengths[k] = 5;
+            while ((wrong >> first & 1) == 0)
+                first++;
+            CHECK(is_refused(w, lengths[0], lengths[1], lengths[2], order[first]));
+        }
+}
+
+/* Strides that leave 64 bits after one row or two: one row never reads them, and more are refused. */
+static void far_strides(void)
+{
+    static const size_t strides[2] = {SIZE_MAX, SIZE_MAX / 2 + 1};
+    for (int k = 0; k < 2; k++) {
+        whole far = {17, 1, strides[k], 17, 9, 0}, far_source = {17, 1, 17, strides[k], 9, 0};
+        lend_waves(&plane, 17, 0);
+        lend_waves(&source, 17, 3);
+        CHECK(is_searched(far) && is_by_single_calls(far, 0) && is_by_single_calls(far, 1));
+        CHECK(is_searched(far_source) && is_by_single_calls(far_source, 0) && is_by_single_calls(far_source, 1));
+        for (size_t height = 2; height <= 3; height++) {
+            far.height = height;
+            far_source.height = height;
+            lend_waves(&plane, 51, 0);
+            lend_waves(&source, 51, 3);
+            CHECK(is_refused(far, 2, 2, 2, 9));
+            CHECK(is_refused(far_source, 2, 2, 2, 14));
+        }
+    }
+}
+
+/* The longest sides, in one row and in one column of macroblocks. */
+static void longest_pictures(void)
+{
+    whole wide = {16383, 1, 0, 0, 1, 0}, high = {1, 16383, 0, 0, 1, 1};
+    lend_planes(wide, 0, 0);
+    CHECK(is_searched(wide));
+    CHECK(is_by_single_calls(wide, 0) && is_by_single_calls(wide, 511) && is_by_single_calls(wide, 1023));
+    CHECK(is_refused(wide, 1024, 1024, 1023, 15));
+    lend_planes(high, 0, 0);
+    CHECK(is_searched(high));
+    CHECK(is_by_single_calls(high, 0) && is_by_single_calls(high, 1023));
+    CHECK(is_refused(high, 1023, 1024, 1024, 15));
+}
+
 static int curve_has(uint8_t strength, size_t e, uint32_t w)
 {
     lend_words(&curve, 256, 99);
@@ -956,6 +1289,14 @@ int main(void)
     }
     versions();
     refused_versions();
+    smallest_picture();
+    cut_pictures();
+    pictures_by_single_calls();
+    pictures_in_themselves();
+    refused_pictures();
+    refused_in_order();
+    far_strides();
+    longest_pictures();
     weight_curves();
     frames_as_numbers();
     refused_builds(CHECKS_ONLY);
