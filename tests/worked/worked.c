@@ -5,7 +5,7 @@
  * Three kinds of numbers are not the library's answers: the cost of a displacement, for which it is asked for the SAD of
  * two blocks; the products of a filter, from which its sample has to follow; and the vectors of a round's tries, of a
  * refinement's square and of the pairs of `orders`, of which it gives the SADs. Searches and SADs are those of version
- * 0, but in `bilinear`. The program ends with status 1 where something that has to agree does not.
+ * 0, but in `bilinear` and `picture`. The program ends with status 1 where something that has to agree does not.
  */
 #include "vp8model.h"
 
@@ -650,6 +650,105 @@ static void bilinear(void)
     close_case();
 }
 
+/* ---- a whole picture: 17 by 16, all rows alike, and two macroblocks, the second of which is cut */
+
+#define PICTURE_SAMPLES (17 * 16)
+
+static uint8_t reference_plane[PICTURE_SAMPLES], source_plane[PICTURE_SAMPLES];
+
+static void lend_picture(void)
+{
+    for (int i = 0; i < PICTURE_SAMPLES; i++) {
+        reference_plane[i] = i % 17 == 16 ? 100 : 0;
+        source_plane[i] = i % 17 == 16 ? 30 : i % 17 == 15 ? 100 : 0;
+    }
+}
+
+/* The source block of the macroblock in this column; its rows have to be alike. */
+static void print_source_block(size_t column)
+{
+    vp8model_status s = vp8model_fetch_luma_mb_whole_pixel(source_plane, PICTURE_SAMPLES, 17, 17, 16, 16 * column, 0, 0,
+                                                           0, source);
+    require(s.refusal == 0, "a fetch was refused");
+    require(memcmp(source, source + 16, 240) == 0, "the rows of a source block differ");
+    printf("macroblock %zu, each row of its source block:", column);
+    print_bytes("", source, 16);
+    printf("\n");
+}
+
+/* What the single calls give for that block, with at most two rounds. */
+static void print_single_calls(size_t column, uint8_t version)
+{
+    const uint8_t *plane = reference_plane;
+    vp8model_diamond d = vp8model_small_diamond_search_luma(plane, PICTURE_SAMPLES, 17, 17, 16, column, 0, source, 0, 0,
+                                                            2);
+    vp8model_search h = vp8model_half_pixel_refine_luma(plane, PICTURE_SAMPLES, 17, 17, 16, column, 0, source, d.row,
+                                                        d.col, version);
+    vp8model_search q = vp8model_quarter_pixel_refine_luma(plane, PICTURE_SAMPLES, 17, 17, 16, column, 0, source, h.row,
+                                                           h.col, version);
+    require(d.refusal == 0 && h.refusal == 0 && q.refusal == 0, "a single call was refused");
+    printf("macroblock %zu, version %u: diamond (%d, %d) %" PRIu32, column, (unsigned)version, d.row, d.col, d.sad);
+    printf(", half (%d, %d) %" PRIu32 ", quarter (%d, %d) %" PRIu32 "\n", h.row, h.col, h.sad, q.row, q.col, q.sad);
+}
+
+/* One call: its strides and height, the bytes of the source and the entries of the SADs that are lent. */
+typedef struct picture_call {
+    const char *what;
+    size_t height, stride, source_stride, source_len;
+    uint32_t limit;
+    uint8_t version;
+    size_t sads_len;
+} picture_call;
+
+/* The entries of the lists, first 7, and one more than the picture has macroblocks. */
+static void print_picture(picture_call c)
+{
+    int16_t rows[5] = {MARK, MARK, MARK, MARK, MARK}, cols[5] = {MARK, MARK, MARK, MARK, MARK};
+    uint32_t held[5] = {MARK, MARK, MARK, MARK, MARK};
+    size_t shown = c.height == 16 ? 3 : 5;
+    vp8model_picture p = vp8model_search_picture_luma(reference_plane, PICTURE_SAMPLES, c.stride, 17, c.height,
+                                                      source_plane, c.source_len, c.source_stride, c.limit, c.version,
+                                                      rows, shown, cols, shown, held, c.sads_len);
+    if (p.refusal != 0)
+        printf("%s: refusal %" PRIu32 "; rows", c.what, p.refusal);
+    else
+        printf("%s: macroblocks %" PRIu32 "; rows", c.what, p.macroblocks);
+    for (size_t i = 0; i < shown; i++)
+        printf(" %d", rows[i]);
+    printf("; columns");
+    for (size_t i = 0; i < shown; i++)
+        printf(" %d", cols[i]);
+    print_words("; SADs", held, shown);
+    printf("\n");
+}
+
+static void picture(void)
+{
+    static const picture_call calls[] = {
+        {"version 1, limit 2", 16, 17, 17, 272, 2, 1, 3},
+        {"version 0, limit 2", 16, 17, 17, 272, 2, 0, 3},
+        {"version 1, limit 0", 16, 17, 17, 272, 0, 1, 3},
+        {"version 1, limit 4294967295", 16, 17, 17, 272, UINT32_MAX, 1, 3},
+        {"source of 17 bytes, stride 0", 16, 17, 0, 17, 2, 1, 3},
+        {"height 17, both strides 0", 17, 0, 0, 17, 2, 1, 5},
+        {"SADs of 2", 16, 17, 17, 272, 2, 1, 2},
+        {"SADs of 1", 16, 17, 17, 272, 2, 1, 1},
+        {"source of 271 bytes", 16, 17, 17, 271, 2, 1, 3},
+        {"source of 271 bytes, SADs of 1", 16, 17, 17, 271, 2, 1, 1},
+        {"version 3, source of 271 bytes", 16, 17, 17, 271, 2, 3, 3},
+    };
+    lend_picture();
+    open_case("picture");
+    for (size_t column = 0; column <= 1; column++) {
+        print_source_block(column);
+        print_single_calls(column, 1);
+        print_single_calls(column, 0);
+    }
+    for (size_t i = 0; i < sizeof calls / sizeof calls[0]; i++)
+        print_picture(calls[i]);
+    close_case();
+}
+
 /* ---- strides below the width */
 
 static const uint8_t few[6] = {10, 20, 30, 40, 50, 60};
@@ -703,6 +802,7 @@ int main(void)
     orders();
     two_passes();
     bilinear();
+    picture();
     narrow_strides();
     return 0;
 }
