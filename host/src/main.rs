@@ -6,9 +6,11 @@ mod files;
 mod model;
 mod names;
 mod outputs;
+mod planes;
 mod progress;
 mod say;
 mod search;
+mod vectors;
 mod words;
 
 use failure::Failure;
@@ -35,6 +37,12 @@ vp8model: a proved model of a VP8 encoder's picture pre-filter and luma motion s
     4294967295). Both refinements predict by the filters of bitstream version V: six-tap for 0 (the default), bilinear
     for 1 and 2; the model refuses 3 to 255. Macroblocks past the right and bottom edge repeat the source's edge
     samples, as the reference does.
+
+  vp8model vectors --width W --height H [--limit N] [--bitstream V] REFERENCE.y SOURCE.y
+
+    Reads the same two planes and searches all macroblocks in one call of the model. Prints a line for each, row by
+    row: its column and row, then vector and SAD after quarter refinement, the last three numbers of `search`. A file
+    that is too short is refused by the model, one that is too long is an error.
 
   vp8model --help       prints this
   vp8model --version    prints the commit that the program was built from and what `rt version` said then
@@ -82,7 +90,8 @@ fn run(words: &[String]) -> Result<(), Failure> {
     match words.first().map(String::as_str) {
         Some("denoise") => denoise::run(&words[1..]),
         Some("search") => search::run(&words[1..]),
-        Some(other) => Err(Failure::Usage(format!("no command {other}: expected denoise or search"))),
-        None => Err(Failure::Usage("expected a command, denoise or search".to_string())),
+        Some("vectors") => vectors::run(&words[1..]),
+        Some(other) => Err(Failure::Usage(format!("no command {other}: expected denoise, search or vectors"))),
+        None => Err(Failure::Usage("expected a command, denoise, search or vectors".to_string())),
     }
 }

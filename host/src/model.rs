@@ -43,6 +43,12 @@ pub struct Search {
     pub sad: u32,
 }
 
+#[repr(C)]
+struct Picture {
+    refusal: u32,
+    macroblocks: u32,
+}
+
 #[rustfmt::skip]
 unsafe extern "C" {
     fn vp8model_build_arnr_altref(
@@ -61,6 +67,11 @@ unsafe extern "C" {
         plane: *const u8, len: usize, stride: usize, width: usize, height: usize, mb_col: usize, mb_row: usize,
         src_y: &[u8; 256], center_row: i16, center_col: i16, version: u8,
     ) -> Search;
+    fn vp8model_search_picture_luma(
+        plane: *const u8, len: usize, stride: usize, width: usize, height: usize,
+        source: *const u8, source_len: usize, source_stride: usize, max_iters: u32, version: u8,
+        rows: *mut i16, rows_len: usize, cols: *mut i16, cols_len: usize, sads: *mut u32, sads_len: usize,
+    ) -> Picture;
 }
 
 /// What a build fills: the picture, packed, its sums and its total weights.
@@ -140,6 +151,30 @@ pub fn quarter(
     accepted(found.refusal, "").map(|()| found)
 }
 
+/// What a whole picture's search fills: row, column and SAD of each macroblock's last vector.
+pub struct Lists {
+    pub rows: Vec<i16>,
+    pub cols: Vec<i16>,
+    pub sads: Vec<u32>,
+}
+
+/// Searches all macroblocks of a source, packed and of the reference's size, and gives their number.
+#[rustfmt::skip]
+pub fn picture(
+    r: Reference, source: &[u8], limit: u32, version: u8, lists: &mut Lists,
+) -> Result<u32, Failure> {
+    let Lists { rows, cols, sads } = lists;
+    // SAFETY: each pointer is that of a slice of the length beside it, and no list shares bytes with another argument.
+    let searched = unsafe {
+        vp8model_search_picture_luma(
+            r.plane.as_ptr(), r.plane.len(), r.width, r.width, r.height,
+            source.as_ptr(), source.len(), r.width, limit, version,
+            rows.as_mut_ptr(), rows.len(), cols.as_mut_ptr(), cols.len(), sads.as_mut_ptr(), sads.len(),
+        )
+    };
+    accepted(searched.refusal, "").map(|()| searched.macroblocks)
+}
+
 fn accepted(refusal: u32, values: &str) -> Result<(), Failure> {
     let line = match refusal {
         0 => return Ok(()),
@@ -152,9 +187,11 @@ fn accepted(refusal: u32, values: &str) -> Result<(), Failure> {
         7 => "a working slice is shorter than the samples of all three planes",
         8 => "the reference width or height is 0 or above 16383",
         9 => "the reference plane is shorter than (height - 1) times stride + width",
+        14 => "the source plane is shorter than (height - 1) times its stride + width",
         10 => "a macroblock column or row exceeds 1023",
         11 => "a component of a vector is outside -1023..1023",
         12 => "a component of a vector is off its grid",
+        15 => "a list has fewer entries than the picture has macroblocks",
         23 => "the version exceeds 2",
         _ => "a number that is not listed for this call",
     };

@@ -1,31 +1,19 @@
 //! `vp8model search`: the motion of each macroblock of one luma plane in another.
 
 use crate::failure::Failure;
-use crate::files::{append, opened, room};
 use crate::model::{self, Place, Reference};
-use crate::names::{Named, apart};
+use crate::planes::{Fewer, Planes};
 use crate::progress::Progress;
 use crate::say;
-use crate::words::Words;
-use std::path::Path;
 
 const HEADER: &str = "col row | diamond: row col sad sads rounds | half: row col sad | quarter: row col sad";
 
 pub fn run(words: &[String]) -> Result<(), Failure> {
-    let words = Words::parse(words, &["--width", "--height", "--limit", "--bitstream"])?;
-    let (width, height): (u32, u32) = (words.number("--width", u32::MAX)?, words.number("--height", u32::MAX)?);
-    let limit = words.optional("--limit", u32::MAX)?.unwrap_or(u32::MAX);
-    let version = words.optional("--bitstream", u8::MAX)?.unwrap_or(0);
-    let [reference, source] = words.files("REFERENCE.y and SOURCE.y")?;
-    let inputs = [Named::input("REFERENCE.y", &reference)?, Named::input("SOURCE.y", &source)?];
-    apart(&inputs.each_ref(), &[&Named::standard_output()?])?;
-    let samples = u64::from(width) * u64::from(height);
-    let (plane, moved) = (read_plane(&reference, samples)?, read_plane(&source, samples)?);
-    let (width, height) = (width as usize, height as usize);
-    let reference = Reference { plane: &plane, width, height };
-    let source = Reference { plane: &moved, width, height };
+    let planes = Planes::read(words, Fewer::Error)?;
+    let Planes { width, height, limit, version, .. } = planes;
+    let (reference, source) = (planes.reference(), planes.source());
     // a plane without samples has one macroblock, for the model to refuse
-    let (columns, rows) = (width.div_ceil(16).max(1), height.div_ceil(16).max(1));
+    let (columns, rows) = (width.div_ceil(16).max(1) as usize, height.div_ceil(16).max(1) as usize);
     let mut progress = Progress::new("search", "macroblock rows", rows as u64);
     for row in 0..rows {
         let mut lines = if row == 0 { format!("{HEADER}\n") } else { String::new() };
@@ -36,16 +24,6 @@ pub fn run(words: &[String]) -> Result<(), Failure> {
         progress.at(row as u64 + 1);
     }
     Ok(())
-}
-
-fn read_plane(path: &Path, samples: u64) -> Result<Vec<u8>, Failure> {
-    let (mut file, len) = opened(path)?;
-    if len != samples {
-        return Err(Failure::Files(format!("{}: {len} bytes, expected a plane of {samples}", path.display())));
-    }
-    let mut plane = room(len, "bytes of a plane")?;
-    append(&mut file, path, len, &mut plane)?;
-    Ok(plane)
 }
 
 // One line: the diamond from (0, 0), half refinement of what it found, quarter refinement of that.
