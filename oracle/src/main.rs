@@ -30,6 +30,8 @@ mod model;
 #[cfg(not(sources_absent))]
 mod paper;
 #[cfg(not(sources_absent))]
+mod pictures;
+#[cfg(not(sources_absent))]
 mod prediction;
 #[cfg(not(sources_absent))]
 mod random;

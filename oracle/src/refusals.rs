@@ -1,4 +1,5 @@
-//! Document 01's refusals and request 10's, in their order, in exact arithmetic. 0 means that the call is accepted.
+//! Document 01's refusals and those of requests 1 and 10, in their order, in exact arithmetic. 0 means that the call is
+//! accepted.
 //! Only accepted inputs are handed to the originals, and windows that 3 or 4 refuses, whose own error is held against it.
 
 use crate::motion_vector::Mv;
@@ -128,6 +129,42 @@ pub fn of_vector_on_grid(p: Place, mv: Mv, grid: i16) -> u64 {
     if before == 0 && (mv.row % grid != 0 || mv.col % grid != 0) { 12 } else { before }
 }
 
+/// A whole-picture search: the size of both planes, their lengths and strides, and the lengths of the lent lists.
+#[derive(Clone, Copy)]
+pub struct Picture {
+    pub width: u64,
+    pub height: u64,
+    pub len: u64,
+    pub stride: u64,
+    pub source_len: u64,
+    pub source_stride: u64,
+    pub lists: [u64; 3],
+}
+
+impl Picture {
+    /// Macroblocks side by side, and one above the other.
+    pub fn macroblocks(&self) -> (u64, u64) {
+        (self.width.div_ceil(16), self.height.div_ceil(16))
+    }
+}
+
+/// 8 and 9 of the reference. 14: the source is shorter than (height - 1) times its own stride + width. 15: one of the
+/// lists has fewer entries than there are macroblocks.
+pub fn of_picture(p: Picture) -> u64 {
+    let before = of_place(Place { len: p.len, stride: p.stride, width: p.width, height: p.height, x: 0, y: 0 }, 0);
+    if before > 0 {
+        return before;
+    }
+    if plane_is_short(p.source_len, p.source_stride, p.width, p.height) {
+        return 14;
+    }
+    let (columns, rows) = p.macroblocks();
+    if p.lists.iter().any(|&entries| entries < columns * rows) {
+        return 15;
+    }
+    0
+}
+
 /// 23, before any other number: the version exceeds 2.
 pub fn of_version(version: u8, other: u64) -> u64 {
     if version > 2 { 23 } else { other }
@@ -144,4 +181,31 @@ pub fn plane_is_short(len: u64, stride: u64, width: u64, height: u64) -> bool {
 /// 13: a filter selector exceeds 7.
 pub fn of_selectors(selectors: &[u32]) -> u64 {
     if selectors.iter().any(|&s| s > 7) { 13 } else { 0 }
+}
+
+#[cfg(test)]
+mod tests {
+    use super::*;
+
+    // 17 by 16 are two macroblocks; two rows of 3 with a stride of 5 need 8 bytes.
+    #[test]
+    fn refusals_of_a_picture() {
+        let wide =
+            Picture { width: 17, height: 16, len: 272, stride: 17, source_len: 32, source_stride: 1, lists: [2; 3] };
+        assert_eq!(of_picture(wide), 0);
+        for k in 0..3 {
+            let mut lists = [9; 3];
+            lists[k] = 1;
+            assert_eq!(of_picture(Picture { lists, ..wide }), 15);
+        }
+        let small = Picture { width: 3, height: 2, len: 3, stride: 0, source_len: 8, source_stride: 5, lists: [1; 3] };
+        assert_eq!(of_picture(small), 0);
+        assert_eq!(of_picture(Picture { lists: [0; 3], ..small }), 15);
+        assert_eq!(of_picture(Picture { source_len: 7, lists: [0; 3], ..small }), 14);
+        assert_eq!(of_picture(Picture { source_stride: u64::MAX, ..small }), 14);
+        assert_eq!(of_picture(Picture { source_stride: u64::MAX, height: 1, ..small }), 0);
+        assert_eq!(of_picture(Picture { len: 2, source_len: 7, ..small }), 9);
+        assert_eq!(of_picture(Picture { width: 16384, len: 2, ..small }), 8);
+        assert_eq!(of_version(3, of_picture(Picture { width: 0, ..small })), 23);
+    }
 }
