@@ -59,6 +59,13 @@ pub struct Diamond {
 }
 
 #[repr(C)]
+#[derive(Debug, Clone, Copy, PartialEq, Eq)]
+pub struct Picture {
+    pub refusal: u32,
+    pub macroblocks: u32,
+}
+
+#[repr(C)]
 #[derive(Debug, Clone, Copy, PartialEq, Eq, Default)]
 pub struct Frame {
     pub width: u32,
@@ -138,6 +145,11 @@ unsafe extern "C" {
         plane: *const u8, len: usize, stride: usize, width: usize, height: usize, mb_col: usize, mb_row: usize,
         src_y: &[u8; 256], center_row: i16, center_col: i16, version: u8,
     ) -> Search;
+    fn vp8model_search_picture_luma(
+        plane: *const u8, plane_len: usize, stride: usize, width: usize, height: usize,
+        source: *const u8, source_len: usize, source_stride: usize, max_iters: u32, version: u8,
+        rows: *mut i16, rows_len: usize, cols: *mut i16, cols_len: usize, sads: *mut u32, sads_len: usize,
+    ) -> Picture;
     #[link_name = "vp8model_curve"]
     pub safe fn curve(strength: u8, curve: &mut [u32; 256]);
     #[link_name = "vp8model_weight"]
@@ -175,6 +187,13 @@ pub struct Luma<'a> {
     pub stride: usize,
     pub width: usize,
     pub height: usize,
+}
+
+/// The three lists that the whole-picture search writes.
+pub struct Lists<'a> {
+    pub rows: &'a mut [i16],
+    pub cols: &'a mut [i16],
+    pub sads: &'a mut [u32],
 }
 
 /// The three slices that a builder writes.
@@ -254,6 +273,21 @@ pub fn small_diamond_search_luma(l: Luma, mb: (usize, usize), src: &[u8; 256], c
     unsafe {
         vp8model_small_diamond_search_luma(
             ptr, len, stride, width, height, mb.0, mb.1, src, center.row, center.col, max_iters,
+        )
+    }
+}
+
+/// The source is its bytes and its stride.
+#[rustfmt::skip]
+pub fn search_picture_luma(l: Luma, source: (&[u8], usize), max_iters: u32, version: u8, lists: Lists) -> Picture {
+    let Luma { plane, stride, width, height } = l;
+    let Lists { rows, cols, sads } = lists;
+    // SAFETY: each slice and its length belong together.
+    unsafe {
+        vp8model_search_picture_luma(
+            plane.as_ptr(), plane.len(), stride, width, height,
+            source.0.as_ptr(), source.0.len(), source.1, max_iters, version,
+            rows.as_mut_ptr(), rows.len(), cols.as_mut_ptr(), cols.len(), sads.as_mut_ptr(), sads.len(),
         )
     }
 }

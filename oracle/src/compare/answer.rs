@@ -7,7 +7,7 @@ use super::guarded::{Entry, Guarded};
 pub struct Answer {
     pub refusal: u64,
     pub said: Vec<i64>,
-    pub slices: Vec<Vec<u32>>,
+    pub slices: Vec<Vec<i64>>,
     pub faults: Vec<String>,
 }
 
@@ -31,7 +31,7 @@ impl Answer {
     }
 
     /// A slice that the call may write.
-    pub fn written<T: Entry + Into<u32>>(mut self, name: &str, lent: &Guarded<T>) -> Self {
+    pub fn written<T: Entry + Into<i64>>(mut self, name: &str, lent: &Guarded<T>) -> Self {
         if lent.guard_broken() {
             self.faults.push(format!("an entry beside {name} was changed"));
         }
@@ -39,7 +39,7 @@ impl Answer {
     }
 
     /// What a slice is expected to hold.
-    pub fn holding<T: Copy + Into<u32>>(mut self, contents: &[T]) -> Self {
+    pub fn holding<T: Copy + Into<i64>>(mut self, contents: &[T]) -> Self {
         self.slices.push(contents.iter().map(|&entry| entry.into()).collect());
         self
     }

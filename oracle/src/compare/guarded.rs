@@ -16,6 +16,12 @@ impl Entry for u8 {
     }
 }
 
+impl Entry for i16 {
+    fn noise(random: &mut Random) -> Self {
+        random.component()
+    }
+}
+
 impl Entry for u32 {
     fn noise(random: &mut Random) -> Self {
         random.next() as u32

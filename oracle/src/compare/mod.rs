@@ -2,7 +2,7 @@
 //!
 //! Where a call is refused, the expected number and values come from refusals.rs, and every lent slice must
 //! hold what it held; elsewhere the originals' answer decides, with the counts of counts.rs, and at a version that of
-//! versions.rs.
+//! versions.rs. A whole picture's is that of their single calls.
 
 mod answer;
 mod builds;
@@ -11,6 +11,7 @@ pub mod content;
 mod guarded;
 mod input;
 mod numbers;
+mod pictures;
 mod planes;
 mod windows;
 
@@ -32,7 +33,8 @@ struct Run {
 }
 
 /// A wrong expectation, so that the report of a difference can be tried: of what a call says, the number at a place is
-/// expected one less where a number of the input is above another.
+/// expected one less where a number of the input is above another. Places past these numbers are the slices, of which
+/// the first entry is.
 struct Plant {
     word: &'static str,
     call: &'static str,
@@ -41,10 +43,11 @@ struct Plant {
     place: usize,
 }
 
-static PLANTS: [Plant; 3] = [
+static PLANTS: [Plant; 4] = [
     Plant { word: "--plant", call: "small_diamond_search_luma", number: "width", above: 20, place: 2 },
     Plant { word: "--plant-rows", call: "block_sad_16x16_up_to", number: "ceiling", above: 20, place: 1 },
     Plant { word: "--plant-version", call: "quarter_pixel_refine_luma", number: "version", above: 0, place: 2 },
+    Plant { word: "--plant-picture", call: "search_picture_luma", number: "width", above: 20, place: 3 },
 ];
 
 /// Runs the comparison; whether every answer was the same. None where the words are not understood.
@@ -93,8 +96,9 @@ fn kinds() -> Vec<&'static Kind> {
     static DEFAULT: Kind = numbers::DEFAULT;
     static NUMBERS: [Kind; 14] = numbers::KINDS;
     static PLANES: [Kind; 12] = planes::KINDS;
+    static PICTURE: Kind = pictures::KIND;
     static BUILDS: [Kind; 5] = builds::KINDS;
-    std::iter::once(&DEFAULT).chain(&NUMBERS).chain(&PLANES).chain(&BUILDS).collect()
+    std::iter::once(&DEFAULT).chain(&NUMBERS).chain(&PLANES).chain([&PICTURE]).chain(&BUILDS).collect()
 }
 
 // Both answers. A panic of the original is a fault.
@@ -107,7 +111,8 @@ fn answers(input: &Input, plant: Option<&Plant>) -> Pair {
     let accepted = pair.expected.refusal == 0;
     let planted = plant.filter(|p| p.call == input.kind.name && accepted && input.get(p.number) > p.above);
     if let Some(plant) = planted {
-        pair.expected.said[plant.place] -= 1;
+        let Answer { said, slices, .. } = &mut pair.expected;
+        *said.iter_mut().chain(slices.iter_mut().map(|slice| &mut slice[0])).nth(plant.place).expect("a place") -= 1;
     }
     pair
 }
@@ -156,7 +161,7 @@ impl Tally {
         for (kind, [accepted, refused]) in self.kinds.iter().zip(&self.counts) {
             println!("  {:<28} {accepted:>7} accepted {refused:>7} refused", kind.name);
         }
-        let numbers = (1..14).chain([23]);
+        let numbers = (1..16).chain([23]);
         let by_number: Vec<String> = numbers.map(|number| format!("{number}: {}", self.refused[number])).collect();
         println!("  refusals by number: {}", by_number.join(", "));
     }
