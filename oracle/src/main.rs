@@ -3,11 +3,12 @@
 //!     oracle answers NAME OUTDIR
 //!     oracle compare [--inputs N] [--seed S] [--index I] [--quick]
 //!     oracle cells [--quick]
+//!     oracle large
 //!     oracle bench CLIP
 //!
 //! NAME is prediction, search or arnr; OUTDIR gets the folder data/ and the file stdout of the crate replay_NAME.
 //! CLIP is the host's sample clip.
-//! Exit status: 0 done; 1 the comparison found a difference; 2 bad usage; 3 the originals, or for the last three the
+//! Exit status: 0 done; 1 the comparison found a difference; 2 bad usage; 3 the originals, or for the last four the
 //! model's library, are not there and nothing was done; 101 an answer of the originals is not document 01's, or they
 //! panicked.
 #![cfg_attr(feature = "simd", feature(portable_simd))]
@@ -25,6 +26,8 @@ mod compare;
 mod counts;
 #[cfg(not(sources_absent))]
 mod denoiser;
+#[cfg(all(model, not(sources_absent)))]
+mod large;
 #[cfg(all(model, not(sources_absent)))]
 mod model;
 #[cfg(not(sources_absent))]
@@ -79,8 +82,9 @@ fn main() {
             Some(same) => exit(if same { 0 } else { 1 }),
             None => usage("usage: oracle cells [--quick]"),
         },
+        ["large"] => exit(if large() { 0 } else { 1 }),
         ["bench", clip] => bench(Path::new(clip)),
-        _ => usage("usage: oracle answers NAME OUTDIR, or oracle compare, oracle cells or oracle bench CLIP"),
+        _ => usage("usage: oracle answers NAME OUTDIR, or oracle compare, cells, large or bench CLIP"),
     }
 }
 
@@ -117,6 +121,11 @@ fn cells(words: &[&str]) -> Option<bool> {
 }
 
 #[cfg(all(model, not(sources_absent)))]
+fn large() -> bool {
+    large::run()
+}
+
+#[cfg(all(model, not(sources_absent)))]
 fn bench(clip: &Path) {
     match std::fs::read(clip) {
         Ok(bytes) => bench::run(&bytes),
@@ -136,6 +145,11 @@ fn compare(_words: &[&str]) -> Option<bool> {
 
 #[cfg(not(all(model, not(sources_absent))))]
 fn cells(_words: &[&str]) -> Option<bool> {
+    without_model()
+}
+
+#[cfg(not(all(model, not(sources_absent))))]
+fn large() -> bool {
     without_model()
 }
 

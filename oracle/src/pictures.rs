@@ -5,21 +5,34 @@ use crate::motion_search::{LumaRef, small_diamond_search_luma};
 use crate::motion_vector::Mv;
 use crate::versions::{half_pixel_refine_luma, quarter_pixel_refine_luma};
 
-/// The source is its bytes and its stride; its size is the reference's. Row, column and SAD of each macroblock, in
-/// raster order, where the picture is accepted.
-pub fn by_single_calls(reference: LumaRef, source: (&[u8], usize), limit: u32, version: u8) -> Vec<(i16, i16, u32)> {
-    let size = (reference.width, reference.height);
+/// Row, column and SAD.
+pub type Found = (i16, i16, u32);
+
+/// The source is its bytes and its stride; its size is the reference's. What is found in each macroblock, in raster
+/// order, of a picture that is accepted.
+pub fn by_single_calls(reference: LumaRef, source: (&[u8], usize), limit: u32, version: u8) -> Vec<Found> {
     let mut found = Vec::new();
-    for row in 0..size.1.div_ceil(16) {
-        for col in 0..size.0.div_ceil(16) {
-            let src = cut(source, size, (col, row));
-            let whole = small_diamond_search_luma(reference, col, row, &src, Mv::default(), limit);
-            let half = half_pixel_refine_luma(reference, (col, row), &src, whole.mv, version);
-            let quarter = quarter_pixel_refine_luma(reference, (col, row), &src, half.mv, version);
-            found.push((quarter.mv.row, quarter.mv.col, quarter.sad));
+    for row in 0..reference.height.div_ceil(16) {
+        for col in 0..reference.width.div_ceil(16) {
+            found.push(searched(reference, source, (col, row), limit, version));
         }
     }
     found
+}
+
+/// The macroblock at a column and row.
+pub fn searched(
+    reference: LumaRef,
+    source: (&[u8], usize),
+    (col, row): (usize, usize),
+    limit: u32,
+    version: u8,
+) -> Found {
+    let src = cut(source, (reference.width, reference.height), (col, row));
+    let whole = small_diamond_search_luma(reference, col, row, &src, Mv::default(), limit);
+    let half = half_pixel_refine_luma(reference, (col, row), &src, whole.mv, version);
+    let quarter = quarter_pixel_refine_luma(reference, (col, row), &src, half.mv, version);
+    (quarter.mv.row, quarter.mv.col, quarter.sad)
 }
 
 /// A macroblock's samples. Past the right or bottom edge the last column or row again.

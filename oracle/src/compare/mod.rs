@@ -8,7 +8,7 @@ mod answer;
 mod builds;
 mod ceilings;
 pub mod content;
-mod guarded;
+pub mod guarded;
 mod input;
 mod numbers;
 mod pictures;

@@ -10,7 +10,7 @@ use crate::motion_search::LumaRef;
 use crate::motion_vector::Mv;
 use crate::paper::Plane;
 use crate::paper::search::{PictureCall, search_picture};
-use crate::pictures::{by_single_calls, cut};
+use crate::pictures::{Found, by_single_calls, cut};
 use crate::random::Random;
 use crate::refusals::{legal_size, plane_is_short};
 
@@ -24,9 +24,6 @@ pub const KIND: Kind = Kind { name: "search_picture_luma", weight: 100, fields: 
 
 /// The source is the reference's own bytes at 0, follows from them below this, and is other content from here on.
 const OTHER: u64 = 4;
-
-/// Row, column and SAD.
-type Found = (i16, i16, u32);
 
 // Accepted in most.
 fn draw(random: &mut Random) -> Drawn {
