@@ -22,6 +22,8 @@ const ROUNDS: usize = 41;
 const ROUND: Duration = Duration::from_millis(3);
 const WIDTH: usize = 352;
 const HEIGHT: usize = 288;
+/// Of the pictures that are searched whole.
+const SIZES: [(usize, usize); 2] = [(WIDTH, HEIGHT), (1280, 720)];
 /// Of the sample clip.
 const CLIP: (usize, usize) = (64, 48);
 
@@ -32,8 +34,9 @@ pub fn run(clip: &[u8]) {
     println!("{ROUNDS} rounds, the sides alternated, warm buffers; time of a call, least and median of the rounds");
     println!("ratio = Rust's time / the model's; the Rust builder allocates its output, the model's is lent it;");
     println!(
-        "beside a SAD up to a ceiling stands the Rust's whole SAD, beside version 1 a copy of the Rust's searches;"
+        "beside a SAD up to a ceiling stands the Rust's whole SAD, beside version 1 a copy of the Rust's searches,"
     );
+    println!("beside a picture in one call the Rust's single calls, which are handed blocks that the caller cuts;");
     println!("a percentage is the share of accepted blocks: the last builder's window is a still picture with noise");
     print_head("model", "Rust");
     filters();
@@ -42,6 +45,8 @@ pub fn run(clip: &[u8]) {
     refinements(&moving());
     diamonds("diamond, moving texture", &moving());
     diamonds("diamond, noise", &noise());
+    let whole = SIZES.map(Whole::moving);
+    whole.iter().for_each(beside_rust);
     let frames = [2, 3, 5, 7, 9, 15].map(|count| ((WIDTH, HEIGHT), count));
     let sizes = [(176, 144), (704, 576)].map(|size| (size, 7));
     let windows = [&frames[..], &sizes].concat();
@@ -54,6 +59,7 @@ pub fn run(clip: &[u8]) {
         println!("  {width}x{height}, {count:>2} frames: model {ours:.2} ns, Rust {rust:.2} ns");
     }
     beside_six_tap(&moving());
+    beside_single_calls(&whole);
     count_rows(clip);
 }
 
@@ -199,9 +205,11 @@ fn halos(plane: &[u8], name: &str, mv: Mv) {
 /// A reference and the macroblocks that are searched in it.
 type Scene = (Vec<u8>, Vec<Source>);
 
-// A texture with noise, which shows what lies 5 rows lower and 3 columns further left in the reference.
+/// A texture, and the same with noise, which shows what lies 5 rows lower and 3 columns further left in the reference.
+const MOVING: [(u64, u64); 2] = [(4, 20 + 256 * 20), (5, 25 + 256 * 17)];
+
 fn moving() -> Scene {
-    let [plane, moved] = [(4, 20 + 256 * 20), (5, 25 + 256 * 17)].map(plane_of);
+    let [plane, moved] = MOVING.map(plane_of);
     (plane, macroblocks(&moved, (WIDTH, HEIGHT)))
 }
 
@@ -227,21 +235,112 @@ fn macroblocks(plane: &[u8], (width, height): (usize, usize)) -> Vec<Source> {
 // The diamond and both refinements for each of the 396 macroblocks.
 fn searches((plane, sources): &Scene) {
     let (luma, same) = reference(plane);
-    let ours = |(mb, src): &Source| {
-        let d = model::small_diamond_search_luma(luma, *mb, src, Mv::default(), 64);
-        let h = model::half_pixel_refine_luma(luma, *mb, src, Mv { row: d.row, col: d.col }, 0);
-        let q = model::quarter_pixel_refine_luma(luma, *mb, src, Mv { row: h.row, col: h.col }, 0);
-        black_box((q.row, q.col, q.sad))
-    };
-    let rust = |(mb, src): &Source| {
-        let d = original::small_diamond_search_luma(same, mb.0, mb.1, src, Mv::default(), 64);
-        let h = original::half_pixel_refine_luma(same, mb.0, mb.1, src, d.mv);
-        let q = original::quarter_pixel_refine_luma(same, mb.0, mb.1, src, h.mv);
-        black_box((q.mv.row, q.mv.col, q.sad))
-    };
+    let ours = |(mb, src): &Source| black_box(model_searches(luma, *mb, src));
+    let rust = |(mb, src): &Source| black_box(rust_searches(same, *mb, src));
     let least = measure_all("diamond, half, quarter, 396 macroblocks", sources, ours, rust);
     let [ours, rust] = least.map(|ns| shown(ns / 396.0));
     println!("  of that a macroblock, least: model {ours}, Rust {rust}");
+}
+
+/// A picture with sides that are multiples of 16, and its source, of the texture that moves.
+struct Whole {
+    size: (usize, usize),
+    plane: Vec<u8>,
+    source: Vec<u8>,
+}
+
+/// Row, column and SAD of each macroblock.
+#[derive(Debug, PartialEq, Eq)]
+struct Vectors {
+    rows: Vec<i16>,
+    cols: Vec<i16>,
+    sads: Vec<u32>,
+}
+
+impl Whole {
+    fn moving((width, height): (usize, usize)) -> Whole {
+        let [plane, source] = MOVING.map(|(kind, seed)| content::bytes(kind, seed, width * height, width));
+        Whole { size: (width, height), plane, source }
+    }
+
+    fn name(&self) -> String {
+        format!("picture {}x{}, {} macroblocks", self.size.0, self.size.1, self.count())
+    }
+
+    fn count(&self) -> usize {
+        self.size.0 / 16 * (self.size.1 / 16)
+    }
+
+    fn luma(&self) -> Luma<'_> {
+        let (width, height) = self.size;
+        Luma { plane: black_box(&self.plane), stride: width, width, height }
+    }
+
+    fn lists(&self) -> Vectors {
+        let count = self.count();
+        Vectors { rows: vec![-1; count], cols: vec![-1; count], sads: vec![u32::MAX; count] }
+    }
+
+    fn at_once(&self, Vectors { rows, cols, sads }: &mut Vectors) {
+        let source = (black_box(&self.source[..]), self.size.0);
+        black_box(model::search_picture_luma(self.luma(), source, 64, 0, model::Lists { rows, cols, sads }));
+    }
+
+    // One macroblock after the other, cut out by the caller.
+    fn singly(&self, into: &mut Vectors, search: impl Fn((usize, usize), &[u8; 256]) -> Found) {
+        let (source, width, columns) = (black_box(&self.source), self.size.0, self.size.0 / 16);
+        let mut block = [0; 256];
+        for i in 0..self.count() {
+            let (col, row) = (i % columns, i / columns);
+            for (y, line) in block.chunks_mut(16).enumerate() {
+                let start = (row * 16 + y) * width + col * 16;
+                line.copy_from_slice(&source[start..start + 16]);
+            }
+            (into.rows[i], into.cols[i], into.sads[i]) = black_box(search((col, row), black_box(&block)));
+        }
+    }
+}
+
+// The diamond and both refinements, as the library's single calls and as the originals.
+fn model_searches(luma: Luma, mb: (usize, usize), src: &[u8; 256]) -> Found {
+    let d = model::small_diamond_search_luma(luma, mb, src, Mv::default(), 64);
+    let h = model::half_pixel_refine_luma(luma, mb, src, Mv { row: d.row, col: d.col }, 0);
+    let q = model::quarter_pixel_refine_luma(luma, mb, src, Mv { row: h.row, col: h.col }, 0);
+    (q.row, q.col, q.sad)
+}
+
+fn rust_searches(reference: LumaRef, (col, row): (usize, usize), src: &[u8; 256]) -> Found {
+    let d = original::small_diamond_search_luma(reference, col, row, src, Mv::default(), 64);
+    let h = original::half_pixel_refine_luma(reference, col, row, src, d.mv);
+    let q = original::quarter_pixel_refine_luma(reference, col, row, src, h.mv);
+    (q.mv.row, q.mv.col, q.sad)
+}
+
+// A picture in one call beside single calls; the least time that the one call takes for a macroblock.
+fn measure_whole(whole: &Whole, single: impl Fn((usize, usize), &[u8; 256]) -> Found) -> f64 {
+    let (mut one, mut other) = (whole.lists(), whole.lists());
+    whole.at_once(&mut one);
+    whole.singly(&mut other, &single);
+    assert_eq!(one, other);
+    let [once, singly] = measure(&whole.name(), || whole.at_once(&mut one), || whole.singly(&mut other, &single));
+    println!("  the one call takes {:.3} of the time, least", once / singly);
+    once / whole.count() as f64
+}
+
+fn beside_rust(whole: &Whole) {
+    let Luma { plane, stride, width, height } = whole.luma();
+    let reference = LumaRef { plane, stride, width, height };
+    measure_whole(whole, |mb, src| rust_searches(reference, mb, src));
+}
+
+// The model alone: a picture in one call, in the first columns, beside its single calls.
+fn beside_single_calls(pictures: &[Whole; 2]) {
+    println!("the model's search of a picture in one call beside its single calls, which are handed blocks that the");
+    println!("caller cuts; ratio = the single calls' time / the one call's:");
+    print_head("one call", "single calls");
+    let each = pictures.each_ref().map(|whole| measure_whole(whole, |mb, src| model_searches(whole.luma(), mb, src)));
+    let [small, large] = each.map(shown);
+    println!("  of the one call a macroblock, least: {small} and {large}, {:.3} times as long", each[1] / each[0]);
 }
 
 // A macroblock and the centre of its refinement.
