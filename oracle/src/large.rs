@@ -20,7 +20,7 @@ const COUNT: usize = ACROSS * ACROSS;
 /// Entries of each list past the macroblocks.
 const MORE: usize = 5;
 
-/// The samples of a row, or of a column, of the reference and of its source.
+/// The samples of a row, or of a column, of the reference and of its source; `columns` where they lie side by side.
 struct Scene {
     name: &'static str,
     columns: bool,
