@@ -11,6 +11,7 @@ use crate::motion_search::{self as original, LumaRef};
 use crate::motion_vector::Mv;
 use crate::paper::denoiser::Window;
 use crate::paper::search::{NO_CEILING, sad};
+use crate::pictures::cut;
 use crate::refusals::packed_size;
 use crate::rows::{self, Rows, Source};
 use crate::versions;
@@ -287,18 +288,27 @@ impl Whole {
     }
 
     // One macroblock after the other, cut out by the caller.
-    fn singly(&self, into: &mut Vectors, search: impl Fn((usize, usize), &[u8; 256]) -> Found) {
-        let (source, width, columns) = (black_box(&self.source), self.size.0, self.size.0 / 16);
-        let mut block = [0; 256];
+    fn singly(&self, into: &mut Vectors, cut: Cut, search: impl Fn((usize, usize), &[u8; 256]) -> Found) {
+        let (source, columns) = ((black_box(&self.source[..]), self.size.0), self.size.0 / 16);
         for i in 0..self.count() {
-            let (col, row) = (i % columns, i / columns);
-            for (y, line) in block.chunks_mut(16).enumerate() {
-                let start = (row * 16 + y) * width + col * 16;
-                line.copy_from_slice(&source[start..start + 16]);
-            }
-            (into.rows[i], into.cols[i], into.sads[i]) = black_box(search((col, row), black_box(&block)));
+            let mb = (i % columns, i / columns);
+            let block = cut(source, self.size, mb);
+            (into.rows[i], into.cols[i], into.sads[i]) = black_box(search(mb, black_box(&block)));
         }
     }
+}
+
+/// How a caller cuts a macroblock out: bytes and stride, the size, the column and row.
+type Cut = fn((&[u8], usize), (usize, usize), (usize, usize)) -> [u8; 256];
+
+// Of sides that are multiples of 16.
+fn by_rows((bytes, stride): (&[u8], usize), _size: (usize, usize), (col, row): (usize, usize)) -> [u8; 256] {
+    let mut block = [0; 256];
+    for (y, line) in block.chunks_mut(16).enumerate() {
+        let start = (row * 16 + y) * stride + col * 16;
+        line.copy_from_slice(&bytes[start..start + 16]);
+    }
+    block
 }
 
 // The diamond and both refinements, as the library's single calls and as the originals.
@@ -317,12 +327,13 @@ fn rust_searches(reference: LumaRef, (col, row): (usize, usize), src: &[u8; 256]
 }
 
 // A picture in one call beside single calls; the least time that the one call takes for a macroblock.
-fn measure_whole(whole: &Whole, single: impl Fn((usize, usize), &[u8; 256]) -> Found) -> f64 {
+fn measure_whole(whole: &Whole, cut: Cut, single: impl Fn((usize, usize), &[u8; 256]) -> Found) -> f64 {
     let (mut one, mut other) = (whole.lists(), whole.lists());
     whole.at_once(&mut one);
-    whole.singly(&mut other, &single);
+    whole.singly(&mut other, cut, &single);
     assert_eq!(one, other);
-    let [once, singly] = measure(&whole.name(), || whole.at_once(&mut one), || whole.singly(&mut other, &single));
+    let singly = || whole.singly(&mut other, cut, &single);
+    let [once, singly] = measure(&whole.name(), || whole.at_once(&mut one), singly);
     println!("  the one call takes {:.3} of the time, least", once / singly);
     once / whole.count() as f64
 }
@@ -330,15 +341,18 @@ fn measure_whole(whole: &Whole, single: impl Fn((usize, usize), &[u8; 256]) -> F
 fn beside_rust(whole: &Whole) {
     let Luma { plane, stride, width, height } = whole.luma();
     let reference = LumaRef { plane, stride, width, height };
-    measure_whole(whole, |mb, src| rust_searches(reference, mb, src));
+    measure_whole(whole, by_rows, |mb, src| rust_searches(reference, mb, src));
 }
 
 // The model alone: a picture in one call, in the first columns, beside its single calls.
 fn beside_single_calls(pictures: &[Whole; 2]) {
     println!("the model's search of a picture in one call beside its single calls, which are handed blocks that the");
-    println!("caller cuts; ratio = the single calls' time / the one call's:");
+    println!("caller cuts, by rows of 16 samples, then as at any size, sample by sample;");
+    println!("ratio = the single calls' time / the one call's:");
     print_head("one call", "single calls");
-    let each = pictures.each_ref().map(|whole| measure_whole(whole, |mb, src| model_searches(whole.luma(), mb, src)));
+    let beside = |whole: &Whole, cut| measure_whole(whole, cut, |mb, src| model_searches(whole.luma(), mb, src));
+    let each = pictures.each_ref().map(|whole| beside(whole, by_rows));
+    pictures.iter().for_each(|whole| _ = beside(whole, cut));
     let [small, large] = each.map(shown);
     println!("  of the one call a macroblock, least: {small} and {large}, {:.3} times as long", each[1] / each[0]);
 }
