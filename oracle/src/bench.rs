@@ -78,18 +78,25 @@ fn measure(name: &str, mut ours: impl FnMut(), mut rust: impl FnMut()) -> [f64; 
     let calls = calls_a_round(&mut ours).min(calls_a_round(&mut rust)).max(1);
     let (mut of_ours, mut of_rust) = (Vec::new(), Vec::new());
     for round in 0..ROUNDS {
+        let (mut ours, mut rust) = (|| timed(calls, &mut ours), || timed(calls, &mut rust));
         if round % 2 == 0 {
-            of_ours.push(timed(calls, &mut ours));
-            of_rust.push(timed(calls, &mut rust));
+            of_ours.push(deeper(round, &mut ours));
+            of_rust.push(deeper(round, &mut rust));
         } else {
-            of_rust.push(timed(calls, &mut rust));
-            of_ours.push(timed(calls, &mut ours));
+            of_rust.push(deeper(round, &mut rust));
+            of_ours.push(deeper(round, &mut ours));
         }
     }
     let [a, b] = [of_ours, of_rust].map(least_and_median);
     let [w, x, y, z] = [a[0], a[1], b[0], b[1]].map(shown);
     println!("{name:<40} {w:>10} {x:>10} {y:>10} {z:>10} {:>6.2} {:>6.2}", b[0] / a[0], b[1] / a[1]);
     [a[0], b[0]]
+}
+
+// At a depth of the stack that grows with the round, over 4096 bytes and more: the place there can cost some percent.
+fn deeper(round: usize, side: &mut dyn FnMut() -> f64) -> f64 {
+    black_box([round as u8; 64]);
+    if round == 0 { side() } else { black_box(deeper(round - 1, side)) }
 }
 
 // Nanoseconds a call.
