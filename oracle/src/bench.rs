@@ -95,7 +95,7 @@ fn measure(name: &str, mut ours: impl FnMut(), mut rust: impl FnMut()) -> [f64; 
 
 // At a depth of the stack that grows with the round, over 4096 bytes and more: the place there can cost some percent.
 fn deeper(round: usize, side: &mut dyn FnMut() -> f64) -> f64 {
-    black_box([round as u8; 64]);
+    black_box([round as u8; 80]);
     if round == 0 { side() } else { black_box(deeper(round - 1, side)) }
 }
 
