@@ -6,7 +6,7 @@
 //!     oracle large
 //!     oracle bench CLIP
 //!
-//! NAME is prediction, search or arnr; OUTDIR gets the folder data/ and the file stdout of the crate replay_NAME.
+//! NAME is prediction, search, arnr or picture; OUTDIR gets the folder data/ and the file stdout of the crate replay_NAME.
 //! CLIP is the host's sample clip.
 //! Exit status: 0 done; 1 the comparison found a difference; 2 bad usage; 3 the originals, or for the last four the
 //! model's library, are not there and nothing was done; 101 an answer of the originals is not document 01's, or they
@@ -32,6 +32,8 @@ mod large;
 mod model;
 #[cfg(not(sources_absent))]
 mod paper;
+#[cfg(not(sources_absent))]
+mod picture;
 #[cfg(not(sources_absent))]
 mod pictures;
 #[cfg(not(sources_absent))]
@@ -99,6 +101,7 @@ fn answers(name: &str, folder: &Path) -> Option<std::io::Result<()>> {
         "prediction" => Some(prediction::write(folder)),
         "search" => Some(search::write(folder)),
         "arnr" => Some(denoiser::write(folder)),
+        "picture" => Some(picture::write(folder)),
         _ => None,
     }
 }
