@@ -1,0 +1,81 @@
+// One record: the call made, its answer and the three lists compared.
+use crate::lists::byte;
+use crate::lists::components_agree;
+use crate::lists::entries_of;
+use crate::lists::least;
+use crate::lists::number;
+use crate::lists::old_components;
+use crate::lists::old_words;
+use crate::lists::part;
+use crate::lists::word;
+use crate::lists::words_agree;
+use picture_search::search_picture_luma;
+use search::picture::PictureAnswer;
+
+// Whether the record has the refusal's number, 0 where the call is accepted, and the macroblocks counted.
+fn has(record: &[u8; 128], refusal: usize, macroblocks: usize) -> bool {
+    number(record, 1) == refusal && number(record, 15) == macroblocks
+}
+
+fn has_answer(record: &[u8; 128], answer: PictureAnswer) -> bool {
+    match answer {
+        PictureAnswer::Searched(macroblocks) => has(record, 0, macroblocks as usize),
+        PictureAnswer::BadVersion => has(record, 23, 0),
+        PictureAnswer::BadSize => has(record, 8, 0),
+        PictureAnswer::ShortPlane => has(record, 9, 0),
+        PictureAnswer::ShortSource => has(record, 14, 0),
+        PictureAnswer::ShortList => has(record, 15, 0),
+    }
+}
+
+// Whether each list holds the stored entries, and behind them what it held before.
+fn hold(entries: &[u8], rows: &[i16], cols: &[i16], sads: &[u32]) -> bool {
+    components_agree(rows, entries, false)
+        && components_agree(cols, entries, true)
+        && words_agree(sads, entries)
+}
+
+// The call: its answer, then each list.
+fn searches(
+    plane: &[u8],
+    source: &[u8],
+    record: &[u8; 128],
+    entries: &[u8],
+    rows: &mut [i16],
+    cols: &mut [i16],
+    sads: &mut [u32],
+) -> bool {
+    let answer = search_picture_luma(
+        plane,
+        number(record, 4),
+        number(record, 5),
+        number(record, 6),
+        source,
+        number(record, 9),
+        word(number(record, 10)),
+        byte(number(record, 11)),
+        rows,
+        cols,
+        sads,
+    );
+    has_answer(record, answer) && hold(entries, rows, cols, sads)
+}
+
+// The same with planes and lists of the lengths that the record has.
+pub(crate) fn agrees(samples: &[u8], payload: &[u8], record: &[u8; 128]) -> bool {
+    let mut rows = old_components(false);
+    let mut cols = old_components(true);
+    let mut sads = old_words();
+    let r = least(number(record, 12), 1100);
+    let c = least(number(record, 13), 1100);
+    let s = least(number(record, 14), 1100);
+    searches(
+        part(samples, number(record, 2), number(record, 3)),
+        part(samples, number(record, 7), number(record, 8)),
+        record,
+        entries_of(payload, number(record, 15)),
+        &mut rows[..r],
+        &mut cols[..c],
+        &mut sads[..s],
+    )
+}
