@@ -242,7 +242,7 @@ own-cost set whole p column row bytes =
     ap (sad16 (sourceBlock p column row)) (sym (copied-mb set whole p (16 * column) (16 * row) (storedMv zeroMv) refl refl bytes) ∙ block-fetched p column row)
     ∙ sad-self (sourceBlock p column row)
 
--- with the reference as its own source every vector is (0, 0) and every SAD 0
+-- a picture that is searched in itself
 pub same-picture : (version limit i : ℕ) (p : Plane) → ((k : ℕ) → getD (p .bytes) k 0 < 256)
     → (pictureAt (rowsFor version) p p limit i .mv ≡ zeroMv) × (pictureAt (rowsFor version) p p limit i .sad ≡ 0)
 unfolding pictureAt searchedMb

@@ -43,7 +43,7 @@ zeroMv = record { row = pos 0; col = pos 0 }
 abbrev pub lastFound : (Mv → ℕ) → (Mv → ℕ) → ℕ → SearchResult
 lastFound wholeCost cost limit = refine cost 1 (refine cost 2 (diamond wholeCost zeroMv limit .mv) .mv)
 
--- with the SADs computed: the diamond's, and nine in each refinement, whose centre is measured anew
+-- and how many SADs that took: the diamond's, then 9 and 9, since each refinement measures its centre again
 unfoldable pub searchedMb : (Mv → ℕ) → (Mv → ℕ) → ℕ → SearchedMb
 searchedMb wholeCost cost limit =
     record { mv = lastFound wholeCost cost limit .mv; sad = lastFound wholeCost cost limit .sad; sads = diamond wholeCost zeroMv limit .sads + (9 + 9) }
@@ -66,7 +66,7 @@ pub record Lists : Type 0 where
 abbrev pub lists : List ℤ → List ℤ → List ℕ → Lists
 lists rows cols sads = record { rows = rows; cols = cols; sads = sads }
 
--- 14. The source plane is shorter than its size and its own stride need
+-- 14. The test of 9, of the source and its own stride
 abbrev pub shortSource : Plane → Bool
 shortSource source = shortPlane source
 
