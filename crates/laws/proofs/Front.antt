@@ -7,12 +7,13 @@ use native.Mathlib.Numerals.{add-one}
 use native.Mathlib.Decide.{decLt}
 use native.Mathlib.Omega.{arith}
 use lib.ListN.{length, getD, take, drop, set, length-set, length-append, length-drop, take-append-drop, List·getD-append}
-use lib.Seq.{take-suc-set, getD-at, getD-drop, getD-append-add}
+use lib.Seq.{take-suc-set, drop-set-lt, drop-drop, getD-at, getD-drop, getD-append-add}
 use Rattle.laws.specs.Tabulate.{tabulate}
+use Rattle.laws.specs.Outcome.{Outcome, refused, accepted, after}
 use Rattle.laws.specs.Front.{listOf, front}
 
 module _ {A : Type 0} where
-  pub length-listOf : (n : ℕ) (f : ℕ → A) → length (listOf n f) ≡ n
+  length-listOf : (n : ℕ) (f : ℕ → A) → length (listOf n f) ≡ n
   unfolding listOf
   length-listOf zero f = refl
   length-listOf (suc n) f = length-append (listOf n f) (f n ∷ []) ∙ ap (λ (k : ℕ). k + 1) (length-listOf n f) ∙ add-one n
@@ -48,15 +49,6 @@ module _ {A : Type 0} where
   unfolding front
   front-length n f old h = length-append (listOf n f) (drop n old) ∙ omega (arith, length-listOf n f, length-drop n old)
 
-  -- two fronts with the same entries are equal
-  pub front-same : (n : ℕ) (f g : ℕ → A) (old : List A) → ((k : ℕ) → k < n → f k ≡ g k) → front n f old ≡ front n g old
-  unfolding front listOf
-  front-same n f g old h = ap (λ (l : List A). l ++ drop n old) (lists n (λ k l. h k l))
-    where
-      lists : (m : ℕ) → ((k : ℕ) → k < m → f k ≡ g k) → listOf m f ≡ listOf m g
-      lists zero e = refl
-      lists (suc m) e = rw (lists m (λ k l. e k (omega arith)), e m (omega arith))
-
   -- a loop fills the front: i of n entries are done, the others are as they were
   pub record Fronting (f : ℕ → A) (n : ℕ) (old now : List A) (i : ℕ) : Type 0 where
     pub count : i ≤ n
@@ -70,19 +62,6 @@ module _ {A : Type 0} where
   unfolding listOf
   front-start f n old h = record { count = omega arith; room = h; long = refl; done = refl; rest = refl }
 
-  drop-past : (l : List A) (i : ℕ) (a : A) → drop (suc i) (set l i a) ≡ drop (suc i) l
-  drop-past [] i a = refl
-  drop-past (x ∷ xs) zero a = refl
-  drop-past (x ∷ xs) (suc i) a = drop-past xs i a
-
-  drop-more : (i : ℕ) (a b : List A) → drop i a ≡ drop i b → drop (suc i) a ≡ drop (suc i) b
-  drop-more i a b e = drop-one i a ∙ ap (drop 1) e ∙ sym (drop-one i b)
-    where
-      drop-one : (i : ℕ) (l : List A) → drop (suc i) l ≡ drop 1 (drop i l)
-      drop-one zero l = refl
-      drop-one (suc i) [] = refl
-      drop-one (suc i) (x ∷ xs) = drop-one i xs
-
   pub front-turn : (f : ℕ → A) (n : ℕ) (old now : List A) (i : ℕ) (v : A) → Fronting f n old now i → i < n → v ≡ f i → Fronting f n old (set now i v) (i + 1)
   unfolding listOf
   front-turn f n old now i v p h e =
@@ -91,7 +70,7 @@ module _ {A : Type 0} where
         room = p .room;
         long = simp length-set (p .long);
         done = rw (add-one i) (take-suc-set now i v (omega (arith, p .long, p .room)) ∙ ap₂ (λ (l : List A) (a : A). l ++ (a ∷ [])) (p .done) e);
-        rest = rw (add-one i) (drop-past now i v ∙ drop-more i now old (p .rest));
+        rest = drop-set-lt (i + 1) now i v (omega arith) ∙ sym (drop-drop 1 i now) ∙ ap (drop 1) (p .rest) ∙ drop-drop 1 i old;
       }
 
   pub front-end : (f : ℕ → A) (n : ℕ) (old now : List A) (i : ℕ) → Fronting f n old now i → n ≤ i → now ≡ front n f old
@@ -105,3 +84,10 @@ pub listOf-table : (n : ℕ) (f : ℕ → ℕ) → listOf n f ≡ tabulate n f
 unfolding listOf tabulate
 listOf-table zero f = refl
 listOf-table (suc n) f = ap (λ (l : List ℕ). l ++ (f n ∷ [])) (listOf-table n f)
+
+-- what a lent list holds after an outcome that is known
+pub after-accepted : {A B : Type 0} {o : Outcome A} {m : A} (old new : B) → o ≡ accepted m → after o old new ≡ new
+after-accepted old new e = ap (λ (x : Outcome _). after x old new) e
+
+pub after-refused : {A B : Type 0} {o : Outcome A} {k : ℕ} {v : List ℕ} (old new : B) → o ≡ refused k v → after o old new ≡ old
+after-refused old new e = ap (λ (x : Outcome _). after x old new) e

@@ -13,7 +13,7 @@ ghost use Rattle.laws.specs.Ceiling.{sumUpTo, rowsMeasured};
 ghost use Rattle.search.specs.Sad.{sad16, rowSad, costIn, costOf};
 ghost use Rattle.search.specs.Search.{diamond, refine};
 ghost use Rattle.search.specs.Refusals.{placeLines, gridLines, anySadLines, refineLines};
-ghost use Rattle.search.specs.Picture.{mbCount, pictureAt, lists, pictureLines};
+ghost use Rattle.search.specs.Picture.{lists};
 ghost use Rattle.numbers.specs.Answers.{mvOf, sadNumbers, ceiledNumbers, searchNumbers, diamondNumbers, Searches};
 
 #[no_mangle]
@@ -242,15 +242,8 @@ pub extern "C" fn vp8model_search_picture_luma(
     sads: &mut [u32],
 ) -> Picture
     ensures { λ r.
-        ⌜ Searches
-        (firstOf (pictureLines version (lumaPlane (now (plane .entry)) stride width height) (lumaPlane (now (source .entry)) «source_stride» width height)
-        (lists (now (rows .entry)) (now (cols .entry)) (now (sads .entry))))
-        (mbCount (lumaPlane (now (plane .entry)) stride width height)))
-        (mbCount (lumaPlane (now (plane .entry)) stride width height))
-        (pictureAt (rowsFor version) (lumaPlane (now (plane .entry)) stride width height)
-        (lumaPlane (now (source .entry)) «source_stride» width height) «max_iters»)
-        r
-        (lists (now (rows .entry)) (now (cols .entry)) (now (sads .entry)))
+        ⌜ Searches version «max_iters» (lumaPlane (now (plane .entry)) stride width height) (lumaPlane (now (source .entry)) «source_stride» width height)
+        r (lists (now (rows .entry)) (now (cols .entry)) (now (sads .entry)))
         (lists (now (rows .exit)) (now (cols .exit)) (now (sads .exit)))
         ⌝ }
 {

@@ -9,13 +9,13 @@ use lib.ListN.{getD}
 use lib.IntN.{ℤ, pos}
 use Rattle.laws.specs.Outcome.{Outcome, refused, accepted, Line, firstOf, after}
 use Rattle.prediction.specs.declared.motion_vector.Mv.{Mv}
+use Rattle.prediction.specs.Plane.{Plane}
 use Rattle.prediction.specs.declared.ceiling.Ceiled as measured
 use Rattle.prediction.specs.declared.motion_comp.FilterSet.{FilterSet}
 use Rattle.prediction.specs.declared.motion_comp.FilterSet.the-variants.{Sixtap, Bilinear}
 use Rattle.search.specs.declared.SearchResult.{SearchResult}
 use Rattle.search.specs.declared.DiamondResult.{DiamondResult}
-use Rattle.search.specs.declared.picture.SearchedMb.{SearchedMb}
-use Rattle.search.specs.Picture.{Lists, PictureIs}
+use Rattle.search.specs.Picture.{Lists, pictureExpected, PictureSearched}
 use Rattle.window.specs.declared.Size.{Size}
 use Rattle.denoiser.specs.declared.Built.{Built}
 use Rattle.numbers.specs.declared.answers.Status.{Status}
@@ -104,7 +104,7 @@ pub record Fills (lines : List Line) (block old : List ℕ) (r : Status) (held :
   pub status : r ≡ statusNumbers (firstOf lines block)
   pub array : held ≡ after (firstOf lines block) old block
 
--- a search of a picture's n macroblocks, by its outcome and the search of each: the numbers, and the lists at exit
-pub record Searches (expected : Outcome ℕ) (n : ℕ) (at : ℕ → SearchedMb) (r : Picture) (old new : Lists) : Type 0 where
-  pub numbers : r ≡ pictureNumbers expected
-  pub held : PictureIs expected n at expected old new
+-- the search of a picture, by the version, the limit and the two planes: the numbers of what is expected, and the lists at exit
+pub record Searches (version limit : ℕ) (plane source : Plane) (r : Picture) (old new : Lists) : Type 0 where
+  pub numbers : r ≡ pictureNumbers (pictureExpected version plane source old)
+  pub held : PictureSearched version limit plane source (pictureExpected version plane source old) old new

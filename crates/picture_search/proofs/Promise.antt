@@ -5,30 +5,31 @@ use Prim.Native.Nat.{ℕ, _≤_}
 use types.Run.{OneOf, miss}
 use denote.Enum.Declared.{tagOf}
 use borrow.Author.Tests.{ltb-false}
-use lib.Dec.{ltb}
 use lib.ListN.{length}
 use Rattle.laws.specs.Front.{front}
-use Rattle.laws.specs.Outcome.{Outcome, refused, accepted, firstOf, after}
+use Rattle.laws.proofs.Front.{after-accepted, after-refused}
+use Rattle.laws.specs.Outcome.{Outcome, refused, accepted}
 use Rattle.laws.proofs.Outcome.{Skipped, skipped, answered, or-none}
 use Rattle.prediction.specs.Plane.{Plane}
+use Rattle.prediction.specs.Filter.{rowsFor}
 use Rattle.search.specs.declared.picture.SearchedMb.{SearchedMb}
 use Rattle.search.specs.declared.picture.PictureAnswer.{PictureAnswer}
 use Rattle.search.specs.declared.picture.PictureAnswer.the-variants.{Searched, BadSize, ShortPlane, ShortSource, ShortList, BadVersion}
-use Rattle.search.specs.Picture.{mbCount, Lists, pictureLines, pictureOutcome, PictureIs}
+use Rattle.search.specs.Picture.{mbCount, pictureAt, Lists, pictureLines, pictureExpected, pictureOutcome, PictureIs, PictureSearched}
 use Rattle.search.proofs.picture.PictureAnswer.{the-type}
 use Rattle.picture_search.specs.Internal.{Legal, Filled}
 
 -- what an accepted call knows
-module _ (version : ℕ) (plane source : Plane) (l : Lists) (a : PictureAnswer) (n : ℕ)
-    (e : pictureOutcome a ≡ firstOf (pictureLines version plane source l) (mbCount plane)) (f : a ≡ Searched n) where
-  pub found : firstOf (pictureLines version plane source l) (mbCount plane) ≡ accepted n
+module _ (version : ℕ) (plane source : Plane) (l : Lists) (a : PictureAnswer) (n : ℕ) (e : pictureOutcome a ≡ pictureExpected version plane source l)
+    (f : a ≡ Searched n) where
+  found : pictureExpected version plane source l ≡ accepted n
   found = sym e ∙ ap pictureOutcome f
 
   none : Skipped (pictureLines version plane source l)
   none = skipped (pictureLines version plane source l) (mbCount plane) n found
 
   pub legal : Legal version plane source
-  legal = record { known = ltb-false 2 version (none .0); size = none .1 .0; long = none .1 .1 .0; also = none .1 .1 .1 .0 }
+  legal = record { known = ltb-false 2 version (none .0); size = none .1 .0; long = none .1 .1 .0; source-long = none .1 .1 .1 .0 }
 
   pub counted : n ≡ mbCount plane
   counted = sym (answered (pictureLines version plane source l) (mbCount plane) n found)
@@ -41,24 +42,27 @@ module _ (version : ℕ) (plane source : Plane) (l : Lists) (a : PictureAnswer) 
       (ltb-false (length (l .rows)) (mbCount plane) (s .0), ltb-false (length (l .cols)) (mbCount plane) (t .0), ltb-false (length (l .sads)) (mbCount plane) (t .1))
 
   -- and promises
-  pub filled-is : (at : ℕ → SearchedMb) (held : Lists) → Filled n at l held
-      → PictureIs (firstOf (pictureLines version plane source l) (mbCount plane)) (mbCount plane) at (accepted n) l held
-  filled-is at held h =
+  pub filled-is : (limit : ℕ) (held : Lists) → Filled n (pictureAt (rowsFor version) plane source limit) l held
+      → PictureSearched version limit plane source (accepted n) l held
+  filled-is limit held h =
       record {
         answer = sym found;
-        rows = h .rows ∙ ap (λ (k : ℕ). front k (λ i. at i .mv .row) (l .rows)) counted ∙ ap (λ (o : Outcome ℕ). after o (l .rows) (front (mbCount plane) (λ i. at i .mv .row) (l .rows))) (sym found);
-        cols = h .cols ∙ ap (λ (k : ℕ). front k (λ i. at i .mv .col) (l .cols)) counted ∙ ap (λ (o : Outcome ℕ). after o (l .cols) (front (mbCount plane) (λ i. at i .mv .col) (l .cols))) (sym found);
-        sads = h .sads ∙ ap (λ (k : ℕ). front k (λ i. at i .sad) (l .sads)) counted ∙ ap (λ (o : Outcome ℕ). after o (l .sads) (front (mbCount plane) (λ i. at i .sad) (l .sads))) (sym found);
+        rows = h .rows ∙ ap (λ (k : ℕ). front k (λ i. at i .mv .row) (l .rows)) counted ∙ sym (after-accepted (l .rows) _ found);
+        cols = h .cols ∙ ap (λ (k : ℕ). front k (λ i. at i .mv .col) (l .cols)) counted ∙ sym (after-accepted (l .cols) _ found);
+        sads = h .sads ∙ ap (λ (k : ℕ). front k (λ i. at i .sad) (l .sads)) counted ∙ sym (after-accepted (l .sads) _ found);
       }
+    where
+      at : ℕ → SearchedMb
+      at = pictureAt (rowsFor version) plane source limit
 
 -- on a refusal the lists are what they were
 kept-at : (expected : Outcome ℕ) (n : ℕ) (at : ℕ → SearchedMb) (l : Lists) (k : ℕ) (v : List ℕ) → refused k v ≡ expected → PictureIs expected n at (refused k v) l l
 kept-at expected n at l k v e =
     record {
       answer = e;
-      rows = ap (λ (o : Outcome ℕ). after o (l .rows) (front n (λ i. at i .mv .row) (l .rows))) e;
-      cols = ap (λ (o : Outcome ℕ). after o (l .cols) (front n (λ i. at i .mv .col) (l .cols))) e;
-      sads = ap (λ (o : Outcome ℕ). after o (l .sads) (front n (λ i. at i .sad) (l .sads))) e;
+      rows = sym (after-refused (l .rows) _ (sym e));
+      cols = sym (after-refused (l .cols) _ (sym e));
+      sads = sym (after-refused (l .sads) _ (sym e));
     }
 
 pub kept-is : (expected : Outcome ℕ) (n : ℕ) (at : ℕ → SearchedMb) (l : Lists) (a : PictureAnswer) → OneOf (1 ∷ 2 ∷ 3 ∷ 4 ∷ 5 ∷ []) (tagOf the-type a)

@@ -32,4 +32,4 @@ pub record Legal (version : ℕ) (plane source : Plane) : Type 0 where
   pub known : version ≤ 2
   pub size : badSize plane ≡ false
   pub long : shortPlane plane ≡ false
-  pub also : shortPlane source ≡ false
+  pub source-long : shortPlane source ≡ false

@@ -18,11 +18,10 @@ ghost use mathlib.Core.Bool.{_||_};
 ghost use Prim.Native.Nat.{_*_, _/_, _+_, _≤_};
 ghost use lib.Dec.{ltb};
 ghost use lib.ListN.{length};
-ghost use Rattle.laws.specs.Outcome.{firstOf};
 ghost use Rattle.prediction.specs.Plane.{lumaPlane};
 ghost use Rattle.prediction.specs.Filter.{rowsFor};
 ghost use Rattle.search.specs.Search.{diamond, refine};
-ghost use Rattle.search.specs.Picture.{mbCount, sourceBlock, zeroMv, searchedAt, pictureAt, lists, pictureLines, pictureOutcome, PictureIs};
+ghost use Rattle.search.specs.Picture.{mbCount, sourceBlock, zeroMv, searchedAt, pictureAt, lists, pictureExpected, pictureOutcome, PictureSearched};
 ghost use Rattle.search.specs.Internal.{planeOf, costAt, costBy};
 ghost use Rattle.picture_search.specs.Internal.{Placed, Refinable, Legal, Filled};
 
@@ -243,9 +242,8 @@ fn checked(
 ) -> PictureAnswer
     ensures { λ r.
         ⌜ pictureOutcome r
-        ≡ firstOf (pictureLines version (lumaPlane (now (plane .entry)) stride width height) (lumaPlane (now (source .entry)) «source_stride» width height)
-        (lists (now (rows .entry)) (now (cols .entry)) (now (sads .entry))))
-        (mbCount (lumaPlane (now (plane .entry)) stride width height))
+        ≡ pictureExpected version (lumaPlane (now (plane .entry)) stride width height) (lumaPlane (now (source .entry)) «source_stride» width height)
+        (lists (now (rows .entry)) (now (cols .entry)) (now (sads .entry)))
         ⌝ }
 {
     if 2 < version {
@@ -282,13 +280,8 @@ pub fn search_picture_luma(
     sads: &mut [u32],
 ) -> PictureAnswer
     ensures { λ r.
-        ⌜ PictureIs
-        (firstOf (pictureLines version (lumaPlane (now (plane .entry)) stride width height) (lumaPlane (now (source .entry)) «source_stride» width height)
-        (lists (now (rows .entry)) (now (cols .entry)) (now (sads .entry))))
-        (mbCount (lumaPlane (now (plane .entry)) stride width height)))
-        (mbCount (lumaPlane (now (plane .entry)) stride width height))
-        (pictureAt (rowsFor version) (lumaPlane (now (plane .entry)) stride width height)
-        (lumaPlane (now (source .entry)) «source_stride» width height) «max_iters»)
+        ⌜ PictureSearched version «max_iters» (lumaPlane (now (plane .entry)) stride width height)
+        (lumaPlane (now (source .entry)) «source_stride» width height)
         (pictureOutcome r) (lists (now (rows .entry)) (now (cols .entry)) (now (sads .entry)))
         (lists (now (rows .exit)) (now (cols .exit)) (now (sads .exit)))
         ⌝ }

@@ -61,7 +61,7 @@ fn searches(
     has_answer(record, answer) && hold(entries, rows, cols, sads)
 }
 
-// The same with planes and lists of the lengths that the record has.
+// The same with planes and lists of the lengths that the record has, the lists at most as long as the arrays.
 pub(crate) fn agrees(samples: &[u8], payload: &[u8], record: &[u8; 128]) -> bool {
     let mut rows = old_components(false);
     let mut cols = old_components(true);

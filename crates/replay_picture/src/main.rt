@@ -1,6 +1,6 @@
-// Replays the stored answers of the whole-picture search, made by single calls of the Rust originals and by a second
-// implementation, and the refusals on the crate `picture_search`, and prints how many cases it compared and how many
-// differ. The layout of `samples` and `cases` is written in oracle/src/picture/mod.rs.
+// Replays the stored answers of the whole-picture search, made by single calls of the Rust originals, at versions 1 and 2 of
+// a copy that takes a version, and by a second implementation, and the refusals on the crate `picture_search`, and prints
+// how many cases it compared and how many differ. The layout of `samples` and `cases` is written in oracle/src/picture/mod.rs.
 mod calls;
 mod lists;
 mod tally;

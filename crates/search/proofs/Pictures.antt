@@ -10,9 +10,9 @@ use borrow.Author.Tests.{ltb-false}
 use lib.IntN.{ℤ, pos}
 use lib.ListN.{length, getD, replicate}
 use Rattle.laws.specs.Front.{front}
-use Rattle.laws.proofs.Front.{front-at, front-past, front-length}
+use Rattle.laws.proofs.Front.{front-at, front-past, front-length, after-accepted, after-refused}
 use Rattle.laws.proofs.Sums.{sum-most}
-use Rattle.laws.specs.Outcome.{Outcome, refused, accepted, firstOf, after}
+use Rattle.laws.specs.Outcome.{Outcome, refused, accepted, firstOf}
 use Rattle.laws.proofs.Outcome.{Skipped, skipped, answered, or-none}
 use Rattle.laws.proofs.Best.{Chosen}
 use Rattle.prediction.specs.declared.motion_vector.Mv.{Mv}
@@ -29,7 +29,7 @@ use Rattle.search.specs.declared.picture.SearchedMb.{SearchedMb}
 use Rattle.search.specs.Sad.{sad16, costIn, costOf}
 use Rattle.search.specs.Search.{sameMv, gridded, roundOf, descend, startAt, diamond, rasterOf, refine}
 use Rattle.search.specs.Refusals.{badMacroblock, outOfRange, offGrid, placeLines, refineLines}
-use Rattle.search.specs.Picture.{mbColumns, mbCount, sourceBlock, zeroMv, lastFound, searchedMb, searchedAt, pictureAt, Lists, lists, shortList, pictureLines, PictureIs}
+use Rattle.search.specs.Picture.{mbColumns, mbCount, sourceBlock, zeroMv, wholeFound, halfFound, lastFound, searchedMb, searchedAt, pictureAt, Lists, lists, pictureLines, pictureExpected, PictureIs, PictureSearched}
 use Rattle.search.specs.Internal.{Good}
 use Rattle.search.proofs.Accepted.{also-accepted}
 use Rattle.search.proofs.SadLaws.{cost-most-in, copied-mb}
@@ -39,27 +39,21 @@ use Rattle.search.proofs.Refine.{refine-best, refine-sad, refine-inside
 use Rattle.search.proofs.Versions.{taps-whole}
 use Rattle.search.proofs.Raster.{never-10, origin-fits, block-fetched, block-byte}
 
--- the vectors that are refined pass 11 and 12, over any costs, and so does the last
+-- the vectors that are refined pass 11 and 12, over any costs, and the last passes 11
 module _ (wholeCost cost : Mv → ℕ) (limit : ℕ) where
-  abbrev whole : Mv
-  whole = diamond wholeCost zeroMv limit .mv
-
-  abbrev half : Mv
-  half = refine cost 2 whole .mv
-
-  half-inside : outOfRange half ≡ false
+  half-inside : outOfRange (halfFound wholeCost cost limit .mv) ≡ false
   half-inside =
-      refine-inside cost whole 2
-      (step-room whole 2 (omega arith) (omega arith) (diamond-inside wholeCost zeroMv limit) (diamond-multiple wholeCost zeroMv limit))
+      refine-inside cost (wholeFound wholeCost limit .mv) 2
+      (step-room _ 2 (omega arith) (omega arith) (diamond-inside wholeCost zeroMv limit) (diamond-multiple wholeCost zeroMv limit))
 
-  pub never-11 : (outOfRange (diamond wholeCost zeroMv limit .mv) ≡ false) × (outOfRange (refine cost 2 (diamond wholeCost zeroMv limit .mv) .mv) ≡ false)
+  pub never-11 : (outOfRange (wholeFound wholeCost limit .mv) ≡ false) × (outOfRange (halfFound wholeCost cost limit .mv) ≡ false)
   never-11 = (diamond-inside wholeCost zeroMv limit, half-inside)
 
-  pub never-12 : (offGrid 4 (diamond wholeCost zeroMv limit .mv) ≡ false) × (offGrid 2 (refine cost 2 (diamond wholeCost zeroMv limit .mv) .mv) ≡ false)
-  never-12 = (diamond-multiple wholeCost zeroMv limit, half-multiple cost whole (diamond-multiple wholeCost zeroMv limit))
+  pub never-12 : (offGrid 4 (wholeFound wholeCost limit .mv) ≡ false) × (offGrid 2 (halfFound wholeCost cost limit .mv) ≡ false)
+  never-12 = (diamond-multiple wholeCost zeroMv limit, half-multiple cost (wholeFound wholeCost limit .mv) (diamond-multiple wholeCost zeroMv limit))
 
-  pub last-inside : outOfRange (lastFound wholeCost cost limit .mv) ≡ false
-  last-inside = refine-inside cost half 1 (step-room half 1 (omega arith) (omega arith) half-inside (never-12 .1))
+  last-inside : outOfRange (lastFound wholeCost cost limit .mv) ≡ false
+  last-inside = refine-inside cost (halfFound wholeCost cost limit .mv) 1 (step-room _ 1 (omega arith) (omega arith) half-inside (never-12 .1))
 
 -- where neither 8, 9 nor 10 applies, and none of 23, 11 and 12, the calls for a macroblock are accepted
 module _ (plane : Plane) (column row : ℕ) (size : badSize plane ≡ false) (long : shortPlane plane ≡ false) (place : badMacroblock column row ≡ false) where
@@ -87,13 +81,19 @@ unfolding searchedMb
 searched-is set plane source limit column row src w h q a b c d = rw (d, c, b, a)
 
 -- an accepted call: no line applies, the answer is the count, and the front of each list is given
-module _ (version limit : ℕ) (plane source : Plane) (outcome : Outcome ℕ) (old held : Lists) (m : ℕ)
-    (is : PictureIs (firstOf (pictureLines version plane source old) (mbCount plane)) (mbCount plane) (pictureAt (rowsFor version) plane source limit) outcome old held)
+module _ (version limit : ℕ) (bytes other : List ℕ) (stride apart width height : ℕ) (outcome : Outcome ℕ) (old held : Lists) (m : ℕ)
+    (is : PictureSearched version limit (lumaPlane bytes stride width height) (lumaPlane other apart width height) outcome old held)
     (done : outcome ≡ accepted m) where
-  found : firstOf (pictureLines version plane source old) (mbCount plane) ≡ accepted m
+  abbrev plane : Plane
+  plane = lumaPlane bytes stride width height
+
+  abbrev source : Plane
+  source = lumaPlane other apart width height
+
+  found : pictureExpected version plane source old ≡ accepted m
   found = sym (is .answer) ∙ done
 
-  pub none-applies : Skipped (pictureLines version plane source old)
+  none-applies : Skipped (pictureLines version plane source old)
   none-applies = skipped (pictureLines version plane source old) (mbCount plane) m found
 
   pub counts : m ≡ mbCount plane
@@ -103,13 +103,13 @@ module _ (version limit : ℕ) (plane source : Plane) (outcome : Outcome ℕ) (o
   at = pictureAt (rowsFor version) plane source limit
 
   rows-front : held .rows ≡ front (mbCount plane) (λ i. at i .mv .row) (old .rows)
-  rows-front = is .rows ∙ ap (λ (o : Outcome ℕ). after o (old .rows) (front (mbCount plane) (λ i. at i .mv .row) (old .rows))) found
+  rows-front = is .rows ∙ after-accepted (old .rows) _ found
 
   cols-front : held .cols ≡ front (mbCount plane) (λ i. at i .mv .col) (old .cols)
-  cols-front = is .cols ∙ ap (λ (o : Outcome ℕ). after o (old .cols) (front (mbCount plane) (λ i. at i .mv .col) (old .cols))) found
+  cols-front = is .cols ∙ after-accepted (old .cols) _ found
 
   sads-front : held .sads ≡ front (mbCount plane) (λ i. at i .sad) (old .sads)
-  sads-front = is .sads ∙ ap (λ (o : Outcome ℕ). after o (old .sads) (front (mbCount plane) (λ i. at i .sad) (old .sads))) found
+  sads-front = is .sads ∙ after-accepted (old .sads) _ found
 
   -- the single calls for the macroblock at a column and a row, made one after the other; entry i of the lists is the last one's answer
   pub record Single (column row i : ℕ) : Type 0 where
@@ -125,9 +125,9 @@ module _ (version limit : ℕ) (plane source : Plane) (outcome : Outcome ℕ) (o
     pub col-is : getD (held .cols) i (pos 0) ≡ quarter .mv .col
     pub sad-is : getD (held .sads) i 0 ≡ quarter .sad
 
-  pub picture-single : badSize source ≡ false → (i : ℕ) → i < m → Single (i % mbColumns plane) (i / mbColumns plane) i
+  pub picture-single : (i : ℕ) → i < m → Single (i % mbColumns plane) (i / mbColumns plane) i
   unfolding pictureAt searchedMb
-  picture-single size i h =
+  picture-single i h =
       let n = none-applies in
       let l : i < mbCount plane = rw (sym counts) h in
       let column = i % mbColumns plane in
@@ -144,7 +144,7 @@ module _ (version limit : ℕ) (plane source : Plane) (outcome : Outcome ℕ) (o
         whole = d;
         half = r;
         quarter = q;
-        fetched = fetch-accepted source column row size (n .1 .1 .1 .0) place;
+        fetched = fetch-accepted source column row (n .1 .0) (n .1 .1 .1 .0) place;
         first = place-accepted plane column row (n .1 .0) (n .1 .1 .0) place d;
         second = refine-accepted plane column row (n .1 .0) (n .1 .1 .0) place version 4 (d .mv) r (n .0) (never-11 wholeCost cost limit .0) (never-12 wholeCost cost limit .0);
         third = refine-accepted plane column row (n .1 .0) (n .1 .1 .0) place version 2 (r .mv) q (n .0) (never-11 wholeCost cost limit .1) (never-12 wholeCost cost limit .1);
@@ -180,10 +180,8 @@ module _ (version limit : ℕ) (plane source : Plane) (outcome : Outcome ℕ) (o
 pub refused-keeps : {A : Type 0} (expected outcome : Outcome A) (n : ℕ) (at : ℕ → SearchedMb) (old held : Lists) (k : ℕ) (v : List ℕ)
     → PictureIs expected n at outcome old held → outcome ≡ refused k v → (held .rows ≡ old .rows) × ((held .cols ≡ old .cols) × (held .sads ≡ old .sads))
 refused-keeps expected outcome n at old held k v is e =
-    let f = sym (is .answer) ∙ e in (
-      is .rows ∙ ap (λ (o : Outcome _). after o (old .rows) (front n (λ i. at i .mv .row) (old .rows))) f,
-      (is .cols ∙ ap (λ (o : Outcome _). after o (old .cols) (front n (λ i. at i .mv .col) (old .cols))) f, is .sads ∙ ap (λ (o : Outcome _). after o (old .sads) (front n (λ i. at i .sad) (old .sads))) f),
-    )
+    let f = sym (is .answer) ∙ e in
+    (is .rows ∙ after-refused (old .rows) _ f, (is .cols ∙ after-refused (old .cols) _ f, is .sads ∙ after-refused (old .sads) _ f))
 
 -- every entry is a vector in range
 pub entry-inside : (set : FilterRows) (plane source : Plane) (limit column row : ℕ) → outOfRange (searchedAt set plane source limit column row .mv) ≡ false
@@ -275,10 +273,7 @@ same-picture version limit i p bytes = (last, refine-sad cost 1 half ∙ ap cost
     last : refine cost 1 half .mv ≡ zeroMv
     last = ap (λ (v : Mv). refine cost 1 v .mv) second ∙ refine-stays cost 1 zeroMv none
 
--- the order of the lines: of two neighbours that apply at once the earlier is given
-abbrev asked : ℕ → Plane → Plane → Lists → Outcome ℕ
-asked version plane source l = firstOf (pictureLines version plane source l) (mbCount plane)
-
+-- the order of the lines. In each of the first four rows two of them apply, and the earlier is given
 abbrev empty : Lists
 empty = lists [] [] []
 
@@ -288,36 +283,24 @@ one = lists (pos 7 ∷ []) (pos 7 ∷ []) (7 ∷ [])
 abbrev two : Lists
 two = lists (pos 7 ∷ pos 7 ∷ []) (pos 7 ∷ pos 7 ∷ []) (7 ∷ 7 ∷ [])
 
-abbrev sample : Plane
-sample = lumaPlane (0 ∷ []) 1 1 1
-
-pub before-8 : asked 3 (lumaPlane [] 1 0 1) sample empty ≡ refused 23 []
-before-8 = refl
-
-pub before-9 : asked 2 (lumaPlane [] 1 16384 1) sample empty ≡ refused 8 []
-before-9 = refl
-
-pub before-14 : asked 2 (lumaPlane [] 1 1 1) (lumaPlane [] 1 1 1) empty ≡ refused 9 []
-before-14 = refl
-
-pub before-15 : asked 2 sample (lumaPlane [] 1 1 1) empty ≡ refused 14 []
-before-15 = refl
-
 -- two rows of 2 with a stride of 3 need 5 bytes of the source, whatever the reference's stride
-abbrev apart : List ℕ → Outcome ℕ
-apart bytes = asked 0 (lumaPlane (0 ∷ 0 ∷ 0 ∷ 0 ∷ []) 2 2 2) (lumaPlane bytes 3 2 2) one
-
-pub source-short : (apart (0 ∷ 0 ∷ 0 ∷ 0 ∷ []) ≡ refused 14 []) × (apart (0 ∷ 0 ∷ 0 ∷ 0 ∷ 0 ∷ []) ≡ accepted 1)
-source-short = (refl, refl)
+abbrev apartBy3 : List ℕ → Outcome ℕ
+apartBy3 bytes = pictureExpected 0 (lumaPlane (0 ∷ 0 ∷ 0 ∷ 0 ∷ []) 2 2 2) (lumaPlane bytes 3 2 2) one
 
 -- 17 columns have two macroblocks, and each list needs two entries
 abbrev wide : Lists → Outcome ℕ
-wide l = asked 0 (lumaPlane (replicate 17 0) 17 17 1) (lumaPlane (replicate 17 0) 0 17 1) l
+wide l = pictureExpected 0 (lumaPlane (replicate 17 0) 17 17 1) (lumaPlane (replicate 17 0) 0 17 1) l
 
-pub list-short : (
-    (wide (lists (one .rows) (two .cols) (two .sads)) ≡ refused 15 [])
+pub lines : (
+    (pictureExpected 3 (lumaPlane [] 1 0 1) (lumaPlane [] 1 0 1) empty ≡ refused 23 [])
+    × (pictureExpected 2 (lumaPlane [] 1 0 2) (lumaPlane [] 0 0 2) empty ≡ refused 8 [])
+    × (pictureExpected 2 (lumaPlane [] 1 1 1) (lumaPlane [] 1 1 1) one ≡ refused 9 [])
+    × (pictureExpected 2 (lumaPlane (0 ∷ []) 1 1 1) (lumaPlane [] 1 1 1) empty ≡ refused 14 [])
+    × (apartBy3 (0 ∷ 0 ∷ 0 ∷ 0 ∷ []) ≡ refused 14 [])
+    × (apartBy3 (0 ∷ 0 ∷ 0 ∷ 0 ∷ 0 ∷ []) ≡ accepted 1)
+    × (wide (lists (one .rows) (two .cols) (two .sads)) ≡ refused 15 [])
     × (wide (lists (two .rows) (one .cols) (two .sads)) ≡ refused 15 [])
     × (wide (lists (two .rows) (two .cols) (one .sads)) ≡ refused 15 [])
     × (wide two ≡ accepted 2)
     )
-list-short = (refl, refl, refl, refl)
+lines = (refl, refl, refl, refl, refl, refl, refl, refl, refl, refl)

@@ -1,7 +1,7 @@
 -- Laws of a picture's macroblocks: how many there are, where each stands, and what its source block holds. Assumes nothing.
 use mathlib.Core.Path.{_≡_, sym, ap, ap₂, _∙_}
 use mathlib.Core.Bool.{false}
-use Prim.Native.Nat.{ℕ, suc, _+_, _-_, _*_, _/_, _%_, _≤_, _<_, min}
+use Prim.Native.Nat.{ℕ, suc, _+_, _-_, _*_, _/_, _%_, _≤_, _<_}
 use native.Mathlib.Nat.{mul-comm, mul-le-mul-left, mul-le-mul-right, mul-add-div-right, mul-add-mod-self-right, div-eq-of-lt, mod-eq-of-lt, mod-lt, div-add-mod', div-lt-iff-lt-mul}
 use native.Mathlib.Omega.{arith}
 use native.Mathlib.Decide.{decLt}
@@ -14,6 +14,7 @@ use Rattle.laws.proofs.Outcome.{or-none}
 use Rattle.prediction.specs.Plane.{Plane, sampleAt, movedBy}
 use Rattle.prediction.specs.Prediction.{squareOf, macroblockOf, offsetBy}
 use Rattle.prediction.specs.Refusals.{badSide, badSize, badOrigin}
+use Rattle.prediction.proofs.Edges.{inside, right-of, below-of}
 use Rattle.fetch.proofs.Squares.{sized}
 use Rattle.filters.proofs.Laws.{square-at, sample-byte}
 use Rattle.search.specs.Refusals.{badMacroblock}
@@ -145,22 +146,12 @@ module _ (p : Plane) (column row : ℕ) where
     pub below : p .rows ≤ 16 * row + j → getD (sourceBlock p column row) (j * 16 + k) 0 ≡ sampleAt p (pos (16 * column + k)) (pos (p .rows - 1))
 
   pub edge-source : (j k : ℕ) → j < 16 → k < 16 → EdgeSource j k
-  unfolding sampleAt
   edge-source j k h l =
       record {
-        inside = λ a b. block-at j k h l ∙ rw (uncut (16 * column + k) (p .columns) a, uncut (16 * row + j) (p .rows) b);
-        right = λ a. block-at j k h l ∙ rw (last (16 * column + k) (p .columns) a, uncut-last (p .columns));
-        below = λ b. block-at j k h l ∙ rw (last (16 * row + j) (p .rows) b, uncut-last (p .rows));
+        inside = λ a b. block-at j k h l ∙ inside p _ _ a b;
+        right = λ a. block-at j k h l ∙ right-of p _ _ a;
+        below = λ b. block-at j k h l ∙ below-of p _ _ b;
       }
-    where
-      uncut : (a n : ℕ) → a < n → min a (n - 1) ≡ a
-      uncut a n e = omega arith
-
-      last : (a n : ℕ) → n ≤ a → min a (n - 1) ≡ n - 1
-      last a n e = omega arith
-
-      uncut-last : (n : ℕ) → min (n - 1) (n - 1) ≡ n - 1
-      uncut-last n = omega arith
 
   -- and each is a byte of the plane
   pub block-byte : ((k : ℕ) → getD (p .bytes) k 0 < 256) → (i : ℕ) → getD (sourceBlock p column row) i 0 < 256

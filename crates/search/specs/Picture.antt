@@ -8,12 +8,13 @@ use lib.Dec.{ltb}
 use lib.IntN.{ℤ, pos}
 use lib.ListN.{length}
 use Rattle.laws.specs.Front.{front}
-use Rattle.laws.specs.Outcome.{Outcome, refused, accepted, Line, line, after}
+use Rattle.laws.specs.Outcome.{Outcome, refused, accepted, Line, line, firstOf, after}
 use Rattle.prediction.specs.declared.motion_vector.Mv.{Mv}
 use Rattle.prediction.specs.Plane.{Plane, sampleAt, movedBy}
-use Rattle.prediction.specs.Filter.{FilterRows}
+use Rattle.prediction.specs.Filter.{FilterRows, rowsFor}
 use Rattle.prediction.specs.Prediction.{macroblockOf}
 use Rattle.prediction.specs.Refusals.{badSize, shortPlane, versionLines}
+use Rattle.search.specs.declared.DiamondResult.{DiamondResult}
 use Rattle.search.specs.declared.SearchResult.{SearchResult}
 use Rattle.search.specs.declared.picture.SearchedMb.{SearchedMb}
 use Rattle.search.specs.declared.picture.PictureAnswer.{PictureAnswer}
@@ -38,15 +39,21 @@ sourceBlock p column row = macroblockOf (movedBy (pos (16 * column)) (pos (16 * 
 abbrev pub zeroMv : Mv
 zeroMv = record { row = pos 0; col = pos 0 }
 
--- the last of the three searches of a macroblock, over any two costs: the diamond from the zero vector by the first, the half refinement of
--- its vector and the quarter refinement of that by the second
-abbrev pub lastFound : (Mv → ℕ) → (Mv → ℕ) → ℕ → SearchResult
-lastFound wholeCost cost limit = refine cost 1 (refine cost 2 (diamond wholeCost zeroMv limit .mv) .mv)
+-- the three searches of a macroblock, over any two costs: the diamond from the zero vector by the first, then by the second the half
+-- refinement of its vector and the quarter refinement of that
+abbrev pub wholeFound : (Mv → ℕ) → ℕ → DiamondResult
+wholeFound wholeCost limit = diamond wholeCost zeroMv limit
 
--- and how many SADs that took: the diamond's, then 9 and 9, since each refinement measures its centre again
+abbrev pub halfFound : (Mv → ℕ) → (Mv → ℕ) → ℕ → SearchResult
+halfFound wholeCost cost limit = refine cost 2 (wholeFound wholeCost limit .mv)
+
+abbrev pub lastFound : (Mv → ℕ) → (Mv → ℕ) → ℕ → SearchResult
+lastFound wholeCost cost limit = refine cost 1 (halfFound wholeCost cost limit .mv)
+
+-- the last one's answer, and how many SADs all took: the diamond's, then 9 and 9, since each refinement measures its centre again
 unfoldable pub searchedMb : (Mv → ℕ) → (Mv → ℕ) → ℕ → SearchedMb
 searchedMb wholeCost cost limit =
-    record { mv = lastFound wholeCost cost limit .mv; sad = lastFound wholeCost cost limit .sad; sads = diamond wholeCost zeroMv limit .sads + (9 + 9) }
+    record { mv = lastFound wholeCost cost limit .mv; sad = lastFound wholeCost cost limit .sad; sads = wholeFound wholeCost limit .sads + (9 + 9) }
 
 -- the search of the macroblock at a column and a row, by the rows of a filter set
 abbrev pub searchedAt : FilterRows → Plane → Plane → ℕ → ℕ → ℕ → SearchedMb
@@ -80,6 +87,10 @@ pictureLines version plane source l =
     versionLines version
     ++ (line 8 (badSize plane) [] ∷ line 9 (shortPlane plane) [] ∷ line 14 (shortSource source) [] ∷ line 15 (shortList (mbCount plane) l) [] ∷ [])
 
+-- what is expected: the first refusal that applies, or the count
+abbrev pub pictureExpected : ℕ → Plane → Plane → Lists → Outcome ℕ
+pictureExpected version plane source l = firstOf (pictureLines version plane source l) (mbCount plane)
+
 -- the number of each case of an answer
 abbrev pub pictureOutcome : PictureAnswer → Outcome ℕ
 pictureOutcome (Searched n) = accepted n
@@ -96,3 +107,8 @@ pub record PictureIs {A : Type 0} (expected : Outcome A) (n : ℕ) (at : ℕ →
   pub rows : held .rows ≡ after expected (old .rows) (front n (λ i. at i .mv .row) (old .rows))
   pub cols : held .cols ≡ after expected (old .cols) (front n (λ i. at i .mv .col) (old .cols))
   pub sads : held .sads ≡ after expected (old .sads) (front n (λ i. at i .sad) (old .sads))
+
+-- what `search_picture_luma` promises, by the version, the limit and the two planes
+abbrev pub PictureSearched : ℕ → ℕ → Plane → Plane → Outcome ℕ → Lists → Lists → Type 0
+PictureSearched version limit plane source outcome old held =
+    PictureIs (pictureExpected version plane source old) (mbCount plane) (pictureAt (rowsFor version) plane source limit) outcome old held

@@ -1,18 +1,17 @@
 -- `search_all` meets its contract. Assumes nothing.
-use mathlib.Core.Path.{_≡_, sym, ap, _∙_}
-use Prim.Native.Nat.{ℕ, _+_, _-_, _/_, _%_, _<_}
+use mathlib.Core.Path.{sym, ap, _∙_}
+use Prim.Native.Nat.{_+_, _-_, _/_, _<_}
 use native.Mathlib.Omega.{arith}
 use borrow.Author.Needs.{needs}
-use lib.ListN.{length}
 use mir.Facts.{toZ-ofZ}
 use Rattle.laws.proofs.Outcome.{or-none}
 use Rattle.laws.proofs.Front.{Fronting, front-start, front-turn, front-end}
-use Rattle.prediction.specs.Plane.{Plane, lumaPlane}
+use Rattle.prediction.specs.Plane.{lumaPlane}
 use Rattle.prediction.specs.Filter.{rowsFor}
 use Rattle.prediction.specs.Refusals.{badSide}
 use Rattle.fetch.proofs.Squares.{sized}
 use Rattle.search.specs.declared.picture.SearchedMb.{SearchedMb}
-use Rattle.search.specs.Picture.{mbColumns, mbCount, pictureAt}
+use Rattle.search.specs.Picture.{mbCount, pictureAt}
 use Rattle.search.specs.Refusals.{outOfRange}
 use Rattle.search.proofs.Accepted.{in-range}
 use Rattle.search.proofs.Grid.{range-fits}
@@ -42,15 +41,17 @@ loop-holds c =
     let r = c .before .before .before .pre .1 .1 in
     (front-start _ _ _ (r .0), front-start _ _ _ (r .1), front-start _ _ _ (r .2))
 
-rem-row : tie.Need-rem-row Inv-loop μ-loop
-rem-row c =
+-- a picture has a column of macroblocks
+some-column : (c : tie.In-loop Inv-loop μ-loop) → 0 < (c .before .before .before .before .before .args .width + 15) / 16
+some-column c =
     let e = c .before .before .before .before .before in
     across (lumaPlane (e .args .plane .now) (e .args .stride) (e .args .width) (e .args .height)) (e .pre .0 .size) .0
 
+rem-row : tie.Need-rem-row Inv-loop μ-loop
+rem-row c = some-column c
+
 div-col : tie.Need-div-col Inv-loop μ-loop
-div-col c =
-    let e = c .before .before .before .before .before in
-    across (lumaPlane (e .args .plane .now) (e .args .stride) (e .args .width) (e .args .height)) (e .pre .0 .size) .0
+div-col c = some-column c
 
 search-mb-requires : tie.Need-search-mb-requires Inv-loop μ-loop
 search-mb-requires c κs =
@@ -60,19 +61,19 @@ search-mb-requires c κs =
     let here : c .before .loop .i < mbCount (lumaPlane (a .plane .now) (a .stride) (a .width) (a .height)) = rw (sym (e .pre .1 .0)) (c .loop-test .taken) in
     let place = never-10 (lumaPlane (a .plane .now) (a .stride) (a .width) (a .height)) (p .size) (c .before .loop .i) here in (
       record { size = p .size; long = p .long; place = place },
-      (record { size = p .size; long = p .also; place = place }, p .known),
+      (record { size = p .size; long = p .source-long; place = place }, p .known),
     )
 
-mul-row : tie.Need-mul-row Inv-loop μ-loop
-mul-row c =
+-- the index is below the greatest count
+index-small : (c : tie.After-struct-told2 Inv-loop μ-loop) → c .before .before .before .before .loop .i < 1048576
+index-small c =
     let e = c .before .before .before .before .before .before .before .before in
     let a = e .args in
-    omega (
-      arith,
-      c .before .before .before .loop-test .taken,
-      e .pre .1 .0,
-      mb-count (lumaPlane (a .plane .now) (a .stride) (a .width) (a .height)) (e .pre .0 .size) .1,
-    )
+    let n = mb-count (lumaPlane (a .plane .now) (a .stride) (a .width) (a .height)) (e .pre .0 .size) .1 in
+    omega (arith, c .before .before .before .loop-test .taken, e .pre .1 .0, n)
+
+mul-row : tie.Need-mul-row Inv-loop μ-loop
+mul-row c = omega (arith, index-small c)
 
 slice-set-from-row : tie.Need-slice-set-from-row Inv-loop μ-loop
 slice-set-from-row c =
@@ -80,15 +81,7 @@ slice-set-from-row c =
     omega (arith, p .long, p .room, c .before .before .before .loop-test .taken)
 
 mul-col : tie.Need-mul-col Inv-loop μ-loop
-mul-col c =
-    let e = c .before .before .before .before .before .before .before .before in
-    let a = e .args in
-    omega (
-      arith,
-      c .before .before .before .loop-test .taken,
-      e .pre .1 .0,
-      mb-count (lumaPlane (a .plane .now) (a .stride) (a .width) (a .height)) (e .pre .0 .size) .1,
-    )
+mul-col c = omega (arith, index-small c)
 
 slice-set-from-col : tie.Need-slice-set-from-col Inv-loop μ-loop
 slice-set-from-col c =
@@ -96,15 +89,7 @@ slice-set-from-col c =
     omega (arith, p .long, p .room, c .before .before .before .loop-test .taken)
 
 mul-sads : tie.Need-mul-sads Inv-loop μ-loop
-mul-sads c =
-    let e = c .before .before .before .before .before .before .before .before in
-    let a = e .args in
-    omega (
-      arith,
-      c .before .before .before .loop-test .taken,
-      e .pre .1 .0,
-      mb-count (lumaPlane (a .plane .now) (a .stride) (a .width) (a .height)) (e .pre .0 .size) .1,
-    )
+mul-sads c = omega (arith, index-small c)
 
 slice-write-sads : tie.Need-slice-write-sads Inv-loop μ-loop
 slice-write-sads c =

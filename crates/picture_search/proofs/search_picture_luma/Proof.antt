@@ -47,7 +47,7 @@ returns c =
     let source = lumaPlane (a .source .now) (a .source-stride) (a .width) (a .height) in
     let l = lists (a .rows .now) (a .cols .now) (a .sads .now) in
     filled-is (a .version) plane source l (k .checked .result) _ (k .checked .ensures) (f .first .given .1)
-    (pictureAt (rowsFor (a .version)) plane source (a .max-iters)) _ (s .search-all .ensures)
+    (a .max-iters) _ (s .search-all .ensures)
 
 same-length-4 : tie.Need-same-length-4
 same-length-4 c = search needs

@@ -1,16 +1,14 @@
 -- `source_block` meets its contract. Assumes nothing.
-use mathlib.Core.Path.{_≡_, ap, _∙_}
+use mathlib.Core.Path.{ap, _∙_}
 use Prim.Native.Nat.{_*_}
 use native.Mathlib.Omega.{arith}
 use borrow.Author.Needs.{needs}
 use borrow.Author.Tests.{ltb-false}
 use lib.Dec.{ltb}
-use Rattle.laws.specs.Outcome.{Outcome}
 use Rattle.laws.proofs.Outcome.{or-none}
 use Rattle.prediction.specs.declared.motion_vector.Mv.{Mv}
 use Rattle.prediction.specs.Refusals.{blockOf}
 use Rattle.fetch.specs.Refusals.{macroblockAt}
-use Rattle.search.specs.declared.Site.{Site}
 use Rattle.search.specs.Internal.{planeOf}
 use Rattle.search.proofs.Pictures.{fetch-accepted}
 use Rattle.picture_search.proofs.source_block.Statement.{statement}
