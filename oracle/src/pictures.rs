@@ -1,5 +1,6 @@
 //! A picture searched by the originals: their diamond and both refinements, at versions 1 and 2 those of the copy that
-//! takes a version, macroblock after macroblock. They have no call that searches a picture, nor one that cuts a macroblock out of its source.
+//! takes a version, macroblock after macroblock. They have no call that searches a picture, nor one that cuts a
+//! macroblock out of its source.
 
 use crate::motion_search::{LumaRef, small_diamond_search_luma};
 use crate::motion_vector::Mv;
