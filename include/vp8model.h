@@ -31,6 +31,7 @@
  *  12  a component is not a multiple of 4 (whole-pixel SAD, half refinement) or of 2 (quarter refinement)
  *  13  a filter selector exceeds 7
  *  15  a lent list has fewer entries than the picture has macroblocks
+ *  30  the allowance is below 19 times the number of macroblocks
  */
 #ifndef VP8MODEL_H
 #define VP8MODEL_H
@@ -106,6 +107,14 @@ typedef struct vp8model_picture {
     uint32_t refusal;
     uint32_t macroblocks;
 } vp8model_picture;
+
+/* The number of macroblocks of a picture that was searched within an allowance, 1 to 1048576, and that of
+ * the comparisons made for them, 19 for each macroblock or more. */
+typedef struct vp8model_allowed {
+    uint32_t refusal;
+    uint32_t macroblocks;
+    uint32_t comparisons;
+} vp8model_allowed;
 
 /* A frame: its size, where its planes start in the picture bytes, and the bytes from row to row. */
 typedef struct vp8model_frame {
@@ -215,6 +224,20 @@ vp8model_picture vp8model_search_picture_luma(const uint8_t *plane, size_t plane
                                               uint8_t version, int16_t *rows, size_t rows_len,
                                               int16_t *cols, size_t cols_len, uint32_t *sads,
                                               size_t sads_len);
+
+/* The same within an allowance of comparisons for the whole picture. A comparison is one SAD computed, cut
+ * short by a ceiling or not: a macroblock makes those of its diamond, the start included, and nine in each
+ * refinement, the centre included. Before a macroblock what remains is the allowance less the comparisons
+ * made for those before it, in the order of the lists. Its grant is that divided by the macroblocks left,
+ * itself included, and its diamond makes at most (grant - 19) / 4 rounds, both rounded down; so it makes no
+ * more comparisons than its grant. The macroblocks and the comparisons made come back, the latter at least
+ * 19 * macroblocks and at most the allowance. Refusals 23, 8, 9, 14, 15 and 30, in this order. */
+vp8model_allowed vp8model_search_picture_luma_within(const uint8_t *plane, size_t plane_len, size_t stride,
+                                                     size_t width, size_t height, const uint8_t *source,
+                                                     size_t source_len, size_t source_stride,
+                                                     uint32_t allowance, uint8_t version, int16_t *rows,
+                                                     size_t rows_len, int16_t *cols, size_t cols_len,
+                                                     uint32_t *sads, size_t sads_len);
 
 /* The weights of the differences 0 to 255 at a strength, one of them, the scale, and the distance bound:
  * n other frames move no sample farther. Strengths 7 to 255 are read as 6; at 0 every weight is 0. */

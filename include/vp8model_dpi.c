@@ -162,6 +162,19 @@ void vp8model_dpi_search_picture_luma(const svOpenArrayHandle plane, uint64_t st
     memcpy(answer, &p, sizeof p);
 }
 
+void vp8model_dpi_search_picture_luma_within(const svOpenArrayHandle plane, uint64_t stride, uint64_t width,
+                                             uint64_t height, const svOpenArrayHandle source,
+                                             uint64_t source_stride, uint32_t allowance, uint8_t version,
+                                             const svOpenArrayHandle rows, const svOpenArrayHandle cols,
+                                             const svOpenArrayHandle sads, svBitVecVal *answer)
+{
+    vp8model_allowed a = vp8model_search_picture_luma_within(
+        bytes_of(plane), length(plane), stride, width, height, bytes_of(source), length(source), source_stride,
+        allowance, version, (int16_t *)entries(rows), length(rows), (int16_t *)entries(cols), length(cols),
+        (uint32_t *)entries(sads), length(sads));
+    memcpy(answer, &a, sizeof a);
+}
+
 uint64_t vp8model_dpi_frame_count(const svOpenArrayHandle numbers)
 {
     return vp8model_frame_count(words_of(numbers), length(numbers));

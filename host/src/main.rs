@@ -38,11 +38,14 @@ vp8model: a proved model of a VP8 encoder's picture pre-filter and luma motion s
     for 1 and 2; the model refuses 3 to 255. Macroblocks past the right and bottom edge repeat the source's edge
     samples, as the reference does.
 
-  vp8model vectors --width W --height H [--limit N] [--bitstream V] REFERENCE.y SOURCE.y
+  vp8model vectors --width W --height H [--limit N | --allowance T] [--bitstream V] REFERENCE.y SOURCE.y
 
     Reads the same two planes and searches all macroblocks in one call of the model. Prints a line for each, row by
     row: its column and row, then vector and SAD after quarter refinement, the last three numbers of `search`. A file
-    that is too short is refused by the model, one that is too long is an error.
+    that is too short is refused by the model, one that is too long is an error. With --allowance the model makes at
+    most T comparisons (SADs computed) for all macroblocks together: each is granted what remains, divided by the
+    macroblocks left, and its diamond makes as many rounds as that allows. A last line, `comparisons C of T`, says how
+    many were made. T is 0 to 4294967295; the model refuses one below 19 times the number of macroblocks.
 
   vp8model --help       prints this
   vp8model --version    prints the commit that the program was built from and what `rt version` said then

@@ -49,6 +49,13 @@ struct Picture {
     macroblocks: u32,
 }
 
+#[repr(C)]
+pub struct Allowed {
+    refusal: u32,
+    pub macroblocks: u32,
+    pub comparisons: u32,
+}
+
 #[rustfmt::skip]
 unsafe extern "C" {
     fn vp8model_build_arnr_altref(
@@ -72,6 +79,11 @@ unsafe extern "C" {
         source: *const u8, source_len: usize, source_stride: usize, max_iters: u32, version: u8,
         rows: *mut i16, rows_len: usize, cols: *mut i16, cols_len: usize, sads: *mut u32, sads_len: usize,
     ) -> Picture;
+    fn vp8model_search_picture_luma_within(
+        plane: *const u8, len: usize, stride: usize, width: usize, height: usize,
+        source: *const u8, source_len: usize, source_stride: usize, allowance: u32, version: u8,
+        rows: *mut i16, rows_len: usize, cols: *mut i16, cols_len: usize, sads: *mut u32, sads_len: usize,
+    ) -> Allowed;
 }
 
 /// What a build fills: the picture, packed, its sums and its total weights.
@@ -175,6 +187,23 @@ pub fn picture(
     accepted(searched.refusal, "").map(|()| searched.macroblocks)
 }
 
+/// The same within an allowance of comparisons for all of them; gives their number and that of the comparisons made.
+#[rustfmt::skip]
+pub fn picture_within(
+    r: Reference, source: &[u8], allowance: u32, version: u8, lists: &mut Lists,
+) -> Result<Allowed, Failure> {
+    let Lists { rows, cols, sads } = lists;
+    // SAFETY: each pointer is that of a slice of the length beside it, and no list shares bytes with another argument.
+    let searched = unsafe {
+        vp8model_search_picture_luma_within(
+            r.plane.as_ptr(), r.plane.len(), r.width, r.width, r.height,
+            source.as_ptr(), source.len(), r.width, allowance, version,
+            rows.as_mut_ptr(), rows.len(), cols.as_mut_ptr(), cols.len(), sads.as_mut_ptr(), sads.len(),
+        )
+    };
+    accepted(searched.refusal, "").map(|()| searched)
+}
+
 fn accepted(refusal: u32, values: &str) -> Result<(), Failure> {
     let line = match refusal {
         0 => return Ok(()),
@@ -193,6 +222,7 @@ fn accepted(refusal: u32, values: &str) -> Result<(), Failure> {
         12 => "a component of a vector is off its grid",
         15 => "a list has fewer entries than the picture has macroblocks",
         23 => "the version exceeds 2",
+        30 => "the allowance is below 19 times the number of macroblocks",
         _ => "a number that is not listed for this call",
     };
     Err(Failure::Refused(format!("the model refuses, number {refusal}: {line}{values}")))

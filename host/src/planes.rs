@@ -1,4 +1,4 @@
-//! What `search` and `vectors` are given: two luma planes of one size, a limit of rounds and a bitstream version.
+//! What `search` and `vectors` are both given: two luma planes of one size and a bitstream version.
 
 use crate::failure::Failure;
 use crate::files::{append, opened, room};
@@ -10,7 +10,6 @@ use std::path::Path;
 pub struct Planes {
     pub width: u32,
     pub height: u32,
-    pub limit: u32,
     pub version: u8,
     reference: Vec<u8>,
     source: Vec<u8>,
@@ -24,17 +23,15 @@ pub enum Fewer {
 }
 
 impl Planes {
-    pub fn read(words: &[String], fewer: Fewer) -> Result<Planes, Failure> {
-        let words = Words::parse(words, &["--width", "--height", "--limit", "--bitstream"])?;
+    pub fn read(words: &Words, fewer: Fewer) -> Result<Planes, Failure> {
         let (width, height) = (words.number("--width", u32::MAX)?, words.number("--height", u32::MAX)?);
-        let limit = words.optional("--limit", u32::MAX)?.unwrap_or(u32::MAX);
         let version = words.optional("--bitstream", u8::MAX)?.unwrap_or(0);
         let [reference, source] = words.files("REFERENCE.y and SOURCE.y")?;
         let inputs = [Named::input("REFERENCE.y", &reference)?, Named::input("SOURCE.y", &source)?];
         apart(&inputs.each_ref(), &[&Named::standard_output()?])?;
         let samples = u64::from(width) * u64::from(height);
         let (reference, source) = (read_plane(&reference, samples, fewer)?, read_plane(&source, samples, fewer)?);
-        Ok(Planes { width, height, limit, version, reference, source })
+        Ok(Planes { width, height, version, reference, source })
     }
 
     pub fn reference(&self) -> Reference<'_> {

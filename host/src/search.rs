@@ -5,12 +5,15 @@ use crate::model::{self, Place, Reference};
 use crate::planes::{Fewer, Planes};
 use crate::progress::Progress;
 use crate::say;
+use crate::words::Words;
 
 const HEADER: &str = "col row | diamond: row col sad sads rounds | half: row col sad | quarter: row col sad";
 
 pub fn run(words: &[String]) -> Result<(), Failure> {
-    let planes = Planes::read(words, Fewer::Error)?;
-    let Planes { width, height, limit, version, .. } = planes;
+    let words = Words::parse(words, &["--width", "--height", "--limit", "--bitstream"])?;
+    let limit = words.optional("--limit", u32::MAX)?.unwrap_or(u32::MAX);
+    let planes = Planes::read(&words, Fewer::Error)?;
+    let Planes { width, height, version, .. } = planes;
     let (reference, source) = (planes.reference(), planes.source());
     // a plane without samples has one macroblock, for the model to refuse
     let (columns, rows) = (width.div_ceil(16).max(1) as usize, height.div_ceil(16).max(1) as usize);

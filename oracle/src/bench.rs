@@ -11,7 +11,7 @@ use crate::motion_search::{self as original, LumaRef};
 use crate::motion_vector::Mv;
 use crate::paper::denoiser::Window;
 use crate::paper::search::{NO_CEILING, sad};
-use crate::pictures::cut;
+use crate::pictures::{by_account, cut};
 use crate::refusals::packed_size;
 use crate::rows::{self, Rows, Source};
 use crate::versions;
@@ -61,6 +61,7 @@ pub fn run(clip: &[u8]) {
     }
     beside_six_tap(&moving());
     beside_single_calls(&whole);
+    within_allowances(&whole[0]);
     count_rows(clip);
 }
 
@@ -74,7 +75,12 @@ fn print_head(ours: &str, other: &str) {
 }
 
 // Measures both sides, prints a line, and answers the least time of each.
-fn measure(name: &str, mut ours: impl FnMut(), mut rust: impl FnMut()) -> [f64; 2] {
+fn measure(name: &str, ours: impl FnMut(), rust: impl FnMut()) -> [f64; 2] {
+    measured(name, ours, rust).map(|[least, _]| least)
+}
+
+// The same with the median.
+fn measured(name: &str, mut ours: impl FnMut(), mut rust: impl FnMut()) -> [[f64; 2]; 2] {
     let calls = calls_a_round(&mut ours).min(calls_a_round(&mut rust)).max(1);
     let (mut of_ours, mut of_rust) = (Vec::new(), Vec::new());
     for round in 0..ROUNDS {
@@ -90,7 +96,7 @@ fn measure(name: &str, mut ours: impl FnMut(), mut rust: impl FnMut()) -> [f64; 
     let [a, b] = [of_ours, of_rust].map(least_and_median);
     let [w, x, y, z] = [a[0], a[1], b[0], b[1]].map(shown);
     println!("{name:<40} {w:>10} {x:>10} {y:>10} {z:>10} {:>6.2} {:>6.2}", b[0] / a[0], b[1] / a[1]);
-    [a[0], b[0]]
+    [a, b]
 }
 
 // At a depth of the stack that grows with the round, over 4096 bytes and more: the place there can cost some percent.
@@ -289,9 +295,19 @@ impl Whole {
         Vectors { rows: vec![-1; count], cols: vec![-1; count], sads: vec![u32::MAX; count] }
     }
 
-    fn at_once(&self, Vectors { rows, cols, sads }: &mut Vectors) {
+    fn at_once(&self, into: &mut Vectors) {
+        self.limited(64, into);
+    }
+
+    fn limited(&self, limit: u32, Vectors { rows, cols, sads }: &mut Vectors) {
         let source = (black_box(&self.source[..]), self.size.0);
-        black_box(model::search_picture_luma(self.luma(), source, 64, 0, model::Lists { rows, cols, sads }));
+        black_box(model::search_picture_luma(self.luma(), source, limit, 0, model::Lists { rows, cols, sads }));
+    }
+
+    fn within(&self, allowance: u32, Vectors { rows, cols, sads }: &mut Vectors) -> model::Allowed {
+        let source = (black_box(&self.source[..]), self.size.0);
+        let lists = model::Lists { rows, cols, sads };
+        black_box(model::search_picture_luma_within(self.luma(), source, allowance, 0, lists))
     }
 
     // One macroblock after the other, cut out by the caller.
@@ -362,6 +378,56 @@ fn beside_single_calls(pictures: &[Whole; 2]) {
     pictures.iter().for_each(|whole| _ = beside(whole, cut));
     let [small, large] = each.map(shown);
     println!("  of the one call a macroblock, least: {small} and {large}, {:.3} times as long", each[1] / each[0]);
+}
+
+/// What no diamond's rounds exceed.
+const NO_LIMIT: u32 = 65281;
+/// Comparisons for each macroblock of the allowances that are measured.
+const EACH: [u32; 8] = [19, 23, 27, 31, 40, 60, 100, 200];
+
+// The model alone: a picture within an allowance, in the first columns, beside the same without a limit.
+fn within_allowances(whole: &Whole) {
+    let count = whole.count() as u32;
+    println!(
+        "the model's search of a picture within an allowance beside the one with the limit {NO_LIMIT}, which is never"
+    );
+    println!("reached: {}; ratio = the latter's time / the former's:", whole.name());
+    print_head("within", "no limit");
+    let [within, none] = beside_no_limit(whole, "no more than 4294967295", u32::MAX);
+    let [least, median] = [0, 1].map(|k| within[k] / none[k]);
+    println!("  the call within the allowance takes {least:.3} of the time, least, and {median:.3}, median");
+    for each in EACH {
+        beside_no_limit(whole, &format!("{each} for each"), each * count);
+    }
+    println!("rows measured within these allowances, as below, and the passes of the refinements' filters:");
+    for each in EACH {
+        let rows = rows_within(whole, each * count);
+        let name = format!("{each} for each, passes {} and {}", rows[1].passes, rows[2].passes);
+        print_rows(&name, rows);
+    }
+}
+
+// By the account of the library's single calls.
+fn rows_within(whole: &Whole, allowance: u32) -> [Rows; 3] {
+    let mut rows = [Rows::default(); 3];
+    by_account(whole.size, allowance, |mb, limit| {
+        let src = cut((&whole.source, whole.size.0), whole.size, mb);
+        rows::add_searches(&mut rows, whole.luma(), &(mb, src), limit);
+        let diamond = model::small_diamond_search_luma(whole.luma(), mb, &src, Mv::default(), limit);
+        ((diamond.row, diamond.col, diamond.sad), diamond.sads.into())
+    });
+    rows
+}
+
+// Both give the same where the allowance is the greatest.
+fn beside_no_limit(whole: &Whole, name: &str, allowance: u32) -> [[f64; 2]; 2] {
+    let (mut one, mut other) = (whole.lists(), whole.lists());
+    let got = whole.within(allowance, &mut one);
+    whole.limited(NO_LIMIT, &mut other);
+    assert!(got.refusal == 0 && got.comparisons <= allowance, "{got:?}");
+    assert!(allowance < u32::MAX || one == other);
+    let name = format!("{name}: {} made", got.comparisons);
+    measured(&name, || _ = whole.within(allowance, &mut one), || whole.limited(NO_LIMIT, &mut other))
 }
 
 // A macroblock and the centre of its refinement.

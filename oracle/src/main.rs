@@ -3,14 +3,15 @@
 //!     oracle answers NAME OUTDIR
 //!     oracle compare [--inputs N] [--seed S] [--index I] [--quick]
 //!     oracle cells [--quick]
+//!     oracle shares
 //!     oracle large
 //!     oracle bench CLIP
 //!
 //! NAME is prediction, search, arnr or picture; OUTDIR gets the folder data/ and the file stdout of the crate replay_NAME.
 //! CLIP is the host's sample clip.
-//! Exit status: 0 done; 1 the comparison found a difference; 2 bad usage; 3 the originals, or for the last four the
-//! model's library, are not there and nothing was done; 101 an answer of the originals is not document 01's, or they
-//! panicked.
+//! Exit status: 0 done; 1 the comparison found a difference, or a law of the shares does not hold; 2 bad usage; 3 the
+//! originals, or for compare, cells, large and bench the model's library, are not there and nothing was done; 101 an
+//! answer of the originals is not document 01's, or they panicked.
 #![cfg_attr(feature = "simd", feature(portable_simd))]
 
 #[cfg(not(sources_absent))]
@@ -49,6 +50,8 @@ mod rows;
 #[cfg(not(sources_absent))]
 mod search;
 #[cfg(not(sources_absent))]
+mod shares;
+#[cfg(not(sources_absent))]
 mod versions;
 
 // What the originals import under `crate::`.
@@ -84,9 +87,10 @@ fn main() {
             Some(same) => exit(if same { 0 } else { 1 }),
             None => usage("usage: oracle cells [--quick]"),
         },
+        ["shares"] => exit(if shares() { 0 } else { 1 }),
         ["large"] => exit(if large() { 0 } else { 1 }),
         ["bench", clip] => bench(Path::new(clip)),
-        _ => usage("usage: oracle answers NAME OUTDIR, or oracle compare, cells, large or bench CLIP"),
+        _ => usage("usage: oracle answers NAME OUTDIR, or oracle compare, cells, shares, large or bench CLIP"),
     }
 }
 
@@ -111,6 +115,16 @@ fn answers(name: &str, _folder: &Path) -> Option<std::io::Result<()>> {
     eprintln!("oracle: skipped: the answers for {name}. The Rust originals are not in {}", env!("ORACLE_SOURCES"));
     eprintln!("oracle: set VP8_SOURCES to their folder and build again; the stored answers stay as they are");
     exit(3)
+}
+
+#[cfg(not(sources_absent))]
+fn shares() -> bool {
+    shares::run()
+}
+
+#[cfg(sources_absent)]
+fn shares() -> bool {
+    without_model()
 }
 
 #[cfg(all(model, not(sources_absent)))]

@@ -66,6 +66,14 @@ pub struct Picture {
 }
 
 #[repr(C)]
+#[derive(Debug, Clone, Copy, PartialEq, Eq)]
+pub struct Allowed {
+    pub refusal: u32,
+    pub macroblocks: u32,
+    pub comparisons: u32,
+}
+
+#[repr(C)]
 #[derive(Debug, Clone, Copy, PartialEq, Eq, Default)]
 pub struct Frame {
     pub width: u32,
@@ -150,6 +158,11 @@ unsafe extern "C" {
         source: *const u8, source_len: usize, source_stride: usize, max_iters: u32, version: u8,
         rows: *mut i16, rows_len: usize, cols: *mut i16, cols_len: usize, sads: *mut u32, sads_len: usize,
     ) -> Picture;
+    fn vp8model_search_picture_luma_within(
+        plane: *const u8, plane_len: usize, stride: usize, width: usize, height: usize,
+        source: *const u8, source_len: usize, source_stride: usize, allowance: u32, version: u8,
+        rows: *mut i16, rows_len: usize, cols: *mut i16, cols_len: usize, sads: *mut u32, sads_len: usize,
+    ) -> Allowed;
     #[link_name = "vp8model_curve"]
     pub safe fn curve(strength: u8, curve: &mut [u32; 256]);
     #[link_name = "vp8model_weight"]
@@ -189,7 +202,7 @@ pub struct Luma<'a> {
     pub height: usize,
 }
 
-/// The three lists that the whole-picture search writes.
+/// The three lists that a whole-picture search writes.
 pub struct Lists<'a> {
     pub rows: &'a mut [i16],
     pub cols: &'a mut [i16],
@@ -287,6 +300,23 @@ pub fn search_picture_luma(l: Luma, source: (&[u8], usize), max_iters: u32, vers
         vp8model_search_picture_luma(
             plane.as_ptr(), plane.len(), stride, width, height,
             source.0.as_ptr(), source.0.len(), source.1, max_iters, version,
+            rows.as_mut_ptr(), rows.len(), cols.as_mut_ptr(), cols.len(), sads.as_mut_ptr(), sads.len(),
+        )
+    }
+}
+
+/// The same with an allowance of comparisons.
+#[rustfmt::skip]
+pub fn search_picture_luma_within(
+    l: Luma, source: (&[u8], usize), allowance: u32, version: u8, lists: Lists,
+) -> Allowed {
+    let Luma { plane, stride, width, height } = l;
+    let Lists { rows, cols, sads } = lists;
+    // SAFETY: each slice and its length belong together.
+    unsafe {
+        vp8model_search_picture_luma_within(
+            plane.as_ptr(), plane.len(), stride, width, height,
+            source.0.as_ptr(), source.0.len(), source.1, allowance, version,
             rows.as_mut_ptr(), rows.len(), cols.as_mut_ptr(), cols.len(), sads.as_mut_ptr(), sads.len(),
         )
     }

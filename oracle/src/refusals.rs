@@ -1,5 +1,5 @@
-//! Document 01's refusals and those of requests 1 and 10, in their order, in exact arithmetic. 0 means that the call is
-//! accepted.
+//! Document 01's refusals and those of requests 1, 10 and 14, in their order, in exact arithmetic. 0 means that the call
+//! is accepted.
 //! Only accepted inputs are handed to the originals, and windows that 3 or 4 refuses, whose own error is held against it.
 
 use crate::motion_vector::Mv;
@@ -165,6 +165,15 @@ pub fn of_picture(p: Picture) -> u64 {
     0
 }
 
+/// 30 after those: the allowance is below 19 times the macroblock count.
+pub fn of_picture_within(p: Picture, allowance: u32) -> u64 {
+    let (columns, rows) = p.macroblocks();
+    match of_picture(p) {
+        0 if u64::from(allowance) < 19 * (columns * rows) => 30,
+        before => before,
+    }
+}
+
 /// 23, before any other number: the version exceeds 2.
 pub fn of_version(version: u8, other: u64) -> u64 {
     if version > 2 { 23 } else { other }
@@ -207,5 +216,22 @@ mod tests {
         assert_eq!(of_picture(Picture { len: 2, source_len: 7, ..small }), 9);
         assert_eq!(of_picture(Picture { width: 16384, len: 2, ..small }), 8);
         assert_eq!(of_version(3, of_picture(Picture { width: 0, ..small })), 23);
+    }
+
+    // Two macroblocks need 38 comparisons, the 1,048,576 of the largest picture 19,922,944.
+    #[test]
+    fn an_allowance_is_refused_last() {
+        let wide =
+            Picture { width: 17, height: 16, len: 272, stride: 17, source_len: 32, source_stride: 1, lists: [2; 3] };
+        assert_eq!([0, 37, 38, 39, u32::MAX].map(|allowance| of_picture_within(wide, allowance)), [30, 30, 0, 0, 0]);
+        let (side, lists) = (16383, [1 << 20; 3]);
+        let (len, stride, source_len, source_stride) = (side, 0, side, 0);
+        let large = Picture { width: side, height: side, len, stride, source_len, source_stride, lists };
+        assert_eq!([19_922_943, 19_922_944].map(|allowance| of_picture_within(large, allowance)), [30, 0]);
+        assert_eq!(of_picture_within(Picture { lists: [2, 1, 2], ..wide }, 37), 15);
+        assert_eq!(of_picture_within(Picture { source_len: 31, ..wide }, 37), 14);
+        assert_eq!(of_picture_within(Picture { len: 271, ..wide }, 0), 9);
+        assert_eq!(of_picture_within(Picture { width: u64::MAX, height: u64::MAX, ..wide }, 0), 8);
+        assert_eq!(of_version(3, of_picture_within(wide, 37)), 23);
     }
 }

@@ -10,11 +10,12 @@ use crate::paper::search::{diamond, predicted, refine, sad_up_to};
 use crate::refusals::packed_size;
 use std::fmt;
 
-/// Rows measured, and those of whole SADs.
+/// Rows measured, and those of whole SADs; the passes of the filter, one for each component with a fraction.
 #[derive(Debug, Clone, Copy, Default, PartialEq, Eq)]
 pub struct Rows {
     measured: u64,
     whole: u64,
+    pub passes: u64,
 }
 
 impl Rows {
@@ -26,7 +27,7 @@ impl Rows {
 
 impl fmt::Display for Rows {
     fn fmt(&self, f: &mut fmt::Formatter) -> fmt::Result {
-        let Rows { measured, whole } = self;
+        let Rows { measured, whole, .. } = self;
         write!(f, "{measured} of {whole} ({} in 100)", (measured * 100 + whole / 2) / whole)
     }
 }
@@ -42,6 +43,7 @@ pub fn add_searches([whole, half, quarter]: &mut [Rows; 3], luma: Luma, (mb, src
         let block = predicted(&plane, *mb, mv, 0);
         let got = model::block_sad_16x16_up_to(src, block[..].try_into().expect("256 samples"), ceiling);
         rows.add(got.rows, 16);
+        rows.passes += [mv.row, mv.col].iter().filter(|&component| component % 4 != 0).count() as u64;
         got.sad
     };
     let found = diamond(|mv, ceiling| measured(whole, mv, ceiling), Mv::default(), limit);

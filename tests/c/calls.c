@@ -1,9 +1,9 @@
 /*
  * Calls every function of vp8model.h, accepted and refused, and holds the answers against values worked out by
  * hand from document 01, those of the SAD up to a ceiling from request 4, those of versions and bilinear rows
- * from request 10, those of whole pictures from request 1 and against the single calls. Every slice and array is
- * lent from between guard entries. On a refusal, and for const arguments always, the lent entries are as they
- * were.
+ * from request 10, those of whole pictures from requests 1 and 14 and against the single calls. Every slice and
+ * array is lent from between guard entries. On a refusal, and for const arguments always, the lent entries are as
+ * they were.
  *
  * Prints one line, `calls: N checks, M failed`, after a line for each check that fails. C11 and C++.
  */
@@ -944,14 +944,19 @@ static void cut_block(whole w, size_t column, size_t row)
     }
 }
 
-/* Entry i is what the three single calls give, one after the other. */
-static int is_by_single_calls(whole w, size_t i)
+/* The diamond of macroblock i by its single call; its source block is cut for it. */
+static vp8model_diamond diamond_of(whole w, size_t i)
 {
     size_t columns = (w.width + 15) / 16, column = i % columns, row = i / columns;
     cut_block(w, column, row);
-    vp8model_diamond d = vp8model_small_diamond_search_luma(at_bytes(&plane), plane.length, w.stride, w.width,
-                                                            w.height, column, row, at_bytes(&block), 0, 0,
-                                                            w.limit);
+    return vp8model_small_diamond_search_luma(at_bytes(&plane), plane.length, w.stride, w.width, w.height, column,
+                                              row, at_bytes(&block), 0, 0, w.limit);
+}
+
+/* Entry i is what the single calls of both refinements give for that block, one after the other. */
+static int is_refined(whole w, size_t i, vp8model_diamond d)
+{
+    size_t columns = (w.width + 15) / 16, column = i % columns, row = i / columns;
     vp8model_search h =
         vp8model_half_pixel_refine_luma(at_bytes(&plane), plane.length, w.stride, w.width, w.height, column,
                                         row, at_bytes(&block), d.row, d.col, w.version);
@@ -959,6 +964,12 @@ static int is_by_single_calls(whole w, size_t i)
         vp8model_quarter_pixel_refine_luma(at_bytes(&plane), plane.length, w.stride, w.width, w.height, column,
                                            row, at_bytes(&block), h.row, h.col, w.version);
     return d.refusal == 0 && h.refusal == 0 && q.refusal == 0 && is_entry(i, q.row, q.col, q.sad);
+}
+
+/* Entry i is what the three single calls give. */
+static int is_by_single_calls(whole w, size_t i)
+{
+    return is_refined(w, i, diamond_of(w, i));
 }
 
 /* The strides 0, below, at and above a width; both sides have each. */
@@ -1100,6 +1111,319 @@ static void longest_pictures(void)
     CHECK(is_searched(high));
     CHECK(is_by_single_calls(high, 0) && is_by_single_calls(high, 1023));
     CHECK(is_refused(high, 1023, 1024, 1024, 15));
+}
+
+/* Whole pictures within an allowance; the limit of a `whole` is then the test's own. */
+
+static vp8model_allowed search_within(whole w, uint32_t allowance, size_t rows, size_t cols, size_t sads)
+{
+    lend_lists();
+    vp8model_allowed a = vp8model_search_picture_luma_within(
+        at_bytes(&plane), plane.length, w.stride, w.width, w.height, at_bytes(&source), source.length,
+        w.source_stride, allowance, w.version, mv_rows + GUARD, rows, mv_cols + GUARD, cols, mv_sads + GUARD,
+        sads);
+    CHECK(same_bytes(&plane) && same_bytes(&source));
+    return a;
+}
+
+/* It is accepted with so many comparisons, and writes no entries past the macroblocks. */
+static int is_within(whole w, uint32_t allowance, uint32_t comparisons)
+{
+    size_t count = macroblocks_of(w);
+    vp8model_allowed a = search_within(w, allowance, count, count + 1, count + 2);
+    return a.refusal == 0 && a.macroblocks == count && a.comparisons == comparisons && marked_from(count);
+}
+
+/* It is refused, gives no numbers and writes nothing. */
+static int is_not_within(whole w, uint32_t allowance, size_t rows, size_t cols, size_t sads, uint32_t refusal)
+{
+    vp8model_allowed a = search_within(w, allowance, rows, cols, sads);
+    return a.refusal == refusal && a.macroblocks == 0 && a.comparisons == 0 && marked_from(0);
+}
+
+/* What a macroblock makes: the SADs of its diamond, and nine in each refinement. */
+static uint32_t made_after(vp8model_diamond d)
+{
+    return d.sads + 9 + 9;
+}
+
+/* The answers are those of the whole-picture search with this limit, for which the single diamonds make so many. */
+static int is_as_limit(whole w, uint32_t allowance, uint32_t limit)
+{
+    static int16_t rows[GUARD + LIST_MOST + GUARD], cols[GUARD + LIST_MOST + GUARD];
+    static uint32_t sads[GUARD + LIST_MOST + GUARD];
+    uint32_t made = 0;
+    w.limit = limit;
+    for (size_t i = 0; i < macroblocks_of(w); i++)
+        made += made_after(diamond_of(w, i));
+    if (!is_searched(w))
+        return 0;
+    memcpy(rows, mv_rows, sizeof rows);
+    memcpy(cols, mv_cols, sizeof cols);
+    memcpy(sads, mv_sads, sizeof sads);
+    return is_within(w, allowance, made) && memcmp(rows, mv_rows, sizeof rows) == 0
+           && memcmp(cols, mv_cols, sizeof cols) == 0 && memcmp(sads, mv_sads, sizeof sads) == 0;
+}
+
+/* 19 for each macroblock are limit 0, one less is refused; 261143 for each are limit 65281 and all above. */
+static void fewest_and_most_comparisons(void)
+{
+    static const size_t sides[5][2] = {{1, 1}, {16, 16}, {17, 33}, {33, 17}, {48, 48}};
+    for (size_t k = 0; k < 5; k++)
+        for (size_t which = 0; which < 16; which += 5)
+            for (uint8_t version = 0; version <= 2; version++) {
+                whole w = with_strides(sides[k][0], sides[k][1], which, 0, version);
+                uint32_t count = (uint32_t)macroblocks_of(w);
+                lend_planes(w, 0, 0);
+                CHECK(is_not_within(w, 0, count, count, count, 30));
+                CHECK(is_not_within(w, 19 * count - 1, count, count, count, 30));
+                CHECK(is_within(w, 19 * count, 19 * count) && is_as_limit(w, 19 * count, 0));
+                CHECK(is_as_limit(w, 19 * count + 3, 0));
+                CHECK(is_as_limit(w, 261143 * count, 65281));
+                CHECK(is_as_limit(w, UINT32_MAX, 65281));
+                CHECK(is_as_limit(w, UINT32_MAX, 65282));
+                CHECK(is_as_limit(w, UINT32_MAX, UINT32_MAX));
+            }
+}
+
+/* One macroblock is granted all: limit (T - 19) / 4. */
+static void one_macroblock_within(void)
+{
+    static const size_t sides[3][2] = {{16, 16}, {15, 9}, {1, 16}};
+    for (size_t k = 0; k < 3; k++)
+        for (uint8_t version = 0; version <= 2; version++) {
+            whole w = with_strides(sides[k][0], sides[k][1], 10, 0, version);
+            lend_planes(w, 0, 0);
+            for (uint32_t allowance = 19; allowance <= 103; allowance++)
+                CHECK(is_as_limit(w, allowance, (allowance - 19) / 4));
+            for (uint32_t less = 0; less < 8; less++)
+                CHECK(is_as_limit(w, UINT32_MAX - less, (UINT32_MAX - less - 19) / 4));
+        }
+}
+
+/* Every entry is what the single calls give with the rounds of its grant, by an account that is kept here. Gives the
+ * number of entries that equal shares would not have given. */
+static size_t check_account(whole w, uint32_t allowance)
+{
+    uint32_t count = (uint32_t)macroblocks_of(w), remains = allowance;
+    size_t apart = 0;
+    vp8model_allowed a = search_within(w, allowance, count, count + 1, count + 2);
+    CHECK(a.refusal == 0 && a.macroblocks == count && marked_from(count));
+    CHECK(19 * count <= a.comparisons && a.comparisons <= allowance);
+    for (uint32_t i = 0; i < count; i++) {
+        w.limit = (allowance / count - 19) / 4;
+        apart += is_by_single_calls(w, i) ? 0 : 1;
+        w.limit = (remains / (count - i) - 19) / 4;
+        vp8model_diamond d = diamond_of(w, i);
+        CHECK(is_refined(w, i, d));
+        remains -= made_after(d);
+    }
+    CHECK(a.comparisons == allowance - remains);
+    return apart;
+}
+
+/* Three of twelve allowances for each picture. */
+static void allowances_by_account(void)
+{
+    static const size_t sides[7] = {1, 15, 16, 17, 31, 32, 33};
+    size_t all = 0, apart = 0;
+    for (size_t size = 0; size < 49; size++)
+        for (size_t which = 0; which < 16; which++)
+            for (uint8_t version = 0; version <= 2; version++) {
+                whole w = with_strides(sides[size % 7], sides[size / 7], which, 0, version);
+                uint32_t m = (uint32_t)macroblocks_of(w);
+                const uint32_t allowances[12] = {19 * m, 19 * m + 3, 19 * m + 4, 20 * m + 1, 23 * m - 1,
+                                                 23 * m, 23 * m + 1, 26 * m + 2, 30 * m - 1, 40 * m,
+                                                 100 * m, UINT32_MAX};
+                lend_planes(w, 0, 0);
+                for (size_t k = 0; k < 3; k++) {
+                    all += m;
+                    apart += check_account(w, allowances[(size + which + version + 4 * k) % 12]);
+                }
+            }
+    /* some of them get more than an equal share, so that what is left over would show if it were lost */
+    CHECK(all < 10 * apart);
+}
+
+/* Nine macroblocks, and every allowance from one that gives no rounds to one that gives each eight. */
+static void allowances_one_by_one(void)
+{
+    for (uint8_t version = 0; version <= 2; version++) {
+        whole w = with_strides(41, 39, 10, 0, version);
+        lend_planes(w, 0, 0);
+        for (uint32_t allowance = 9 * 19; allowance <= 9 * (19 + 4 * 8); allowance++)
+            check_account(w, allowance);
+    }
+}
+
+/* The same bytes, by one stride: nothing moves, and a diamond that has a round makes it and stops. */
+static void allowances_without_motion(void)
+{
+    for (uint8_t version = 0; version <= 2; version++) {
+        whole w = with_strides(33, 31, 10, 0, version);
+        lend_waves(&plane, needed(w.stride, w.width, w.height), 0);
+        lend_waves(&source, needed(w.source_stride, w.width, w.height), 0);
+        CHECK(is_within(w, UINT32_MAX, 6 * 23) && is_within(w, 6 * 23, 6 * 23));
+        /* 137 / 6 = 22 is no round for the first; 118 / 5 = 23 is one for each of the others */
+        CHECK(is_within(w, 6 * 23 - 1, 19 + 5 * 23));
+        for (size_t i = 0; i < 6; i++)
+            CHECK(is_entry(i, 0, 0, 0));
+    }
+}
+
+/* 48 by 16, all rows alike: 4 x in the plane, and in the source, but that is 40 below it from column 16 on. So the
+ * first macroblock stays where it is, and the others cost 40 - 4 c in each sample c columns further left: a round goes
+ * one column, and the refinements three quarters more. Turned, the last one stays and the others go to the right. */
+static void lend_slope(int turned)
+{
+    lend_bytes(&plane, 48 * 16, 0);
+    lend_bytes(&source, 48 * 16, 0);
+    for (size_t i = 0; i < 48 * 16; i++) {
+        size_t along = turned ? 47 - i % 48 : i % 48;
+        at_bytes(&plane)[i] = (uint8_t)(4 * along);
+        at_bytes(&source)[i] = (uint8_t)(4 * along - (along < 16 ? 0 : 40));
+    }
+    keep_bytes(&plane);
+    keep_bytes(&source);
+}
+
+/* After so many rounds. */
+static int is_walked(size_t i, int rounds, int turned)
+{
+    int quarters = 4 * rounds + 3;
+    return is_entry(i, -3, turned ? quarters : -quarters, (uint32_t)(256 * (40 - quarters)));
+}
+
+static void allowances_on_a_slope(void)
+{
+    for (uint8_t version = 0; version <= 2; version++) {
+        const whole w = {48, 16, 48, 48, 0, version};
+        lend_slope(0);
+        /* granted 33, which gives 3 rounds, of which 1 is made; 77 / 2 = 38: 4 rounds; 77 - 35 = 42: 5 rounds */
+        CHECK(is_within(w, 100, 23 + 35 + 39));
+        CHECK(is_entry(0, 0, 0, 0) && is_walked(1, 4, 0) && is_walked(2, 5, 0));
+        /* 32, 74 / 2 = 37 and 39: nothing remains */
+        CHECK(is_within(w, 97, 97) && is_walked(1, 4, 0) && is_walked(2, 5, 0));
+        /* 32, 73 / 2 = 36 and 38 */
+        CHECK(is_within(w, 96, 23 + 35 + 35) && is_walked(1, 4, 0) && is_walked(2, 4, 0));
+        /* ten rounds to the source's place, and one more */
+        CHECK(is_within(w, UINT32_MAX, 23 + 63 + 63) && is_entry(1, 0, -40, 0) && is_entry(2, 0, -40, 0));
+        lend_slope(1);
+        /* 33 and 34 give 3 rounds each; the last makes 23 of 38, and what it leaves is nobody's */
+        CHECK(is_within(w, 100, 31 + 31 + 23));
+        CHECK(is_walked(0, 3, 1) && is_walked(1, 3, 1) && is_entry(2, 0, 0, 0));
+    }
+}
+
+/* 272 by 1: x up to 255 in the plane, and 255 in the source. Macroblock i goes 255 - 16 i columns to the right, and
+ * one round more. The first then stands at 1020, where the right neighbour is skipped and not counted. Turned, the
+ * last goes as far to the left. */
+static void allowances_to_the_last_vector(int turned, uint8_t version)
+{
+    const whole w = {272, 1, 272, 272, 0, version};
+    uint32_t made = 23;
+    for (uint32_t i = 0; i < 16; i++)
+        made += 1 + 4 * (255 - 16 * i) + (i == 0 ? 3 : 4) + 18;
+    lend_bytes(&source, 272, 255);
+    lend_bytes(&plane, 272, 255);
+    for (size_t x = 0; x < 255; x++)
+        at_bytes(&plane)[turned ? 271 - x : x] = (uint8_t)x;
+    keep_bytes(&plane);
+    CHECK(is_within(w, UINT32_MAX, made));
+    CHECK(is_entry(turned ? 16 : 0, 0, turned ? -1020 : 1020, 0));
+    CHECK(is_entry(turned ? 1 : 15, 0, turned ? -60 : 60, 0));
+    CHECK(is_entry(turned ? 0 : 16, 0, 0, 0));
+    for (uint32_t share = 1041; share <= 1043; share++)
+        check_account(w, 17 * share);
+    /* the far ones last: they get what the near ones leave; the far ones first: they leave nothing to gain by */
+    CHECK((check_account(w, 17 * 400) > 0) == (turned != 0));
+}
+
+/* Each other refusal, at its edge, whatever the allowance: 17 by 33 is 6 macroblocks. */
+static void refused_with_allowance(uint32_t allowance)
+{
+    static const size_t sizes[6][2] = {{0, 33}, {17, 0}, {16384, 33}, {17, 16384}, {SIZE_MAX, 33}, {0, 0}};
+    const whole legal = {17, 33, 17, 20, 0, 2};
+    whole w = legal;
+    lend_planes(legal, 0, 0);
+    for (int version = 3; version <= 255; version += 4) {
+        w.version = (uint8_t)version;
+        CHECK(is_not_within(w, allowance, 6, 6, 6, 23));
+    }
+    for (int k = 0; k < 6; k++) {
+        w = legal;
+        w.width = sizes[k][0];
+        w.height = sizes[k][1];
+        CHECK(is_not_within(w, allowance, 6, 6, 6, 8));
+    }
+    CHECK(is_not_within(legal, allowance, 5, 6, 6, 15));
+    CHECK(is_not_within(legal, allowance, 6, 5, 6, 15));
+    CHECK(is_not_within(legal, allowance, 6, 6, 5, 15));
+    lend_planes(legal, 1, 0);
+    CHECK(is_not_within(legal, allowance, 6, 6, 6, 9));
+    lend_planes(legal, 0, 1);
+    CHECK(is_not_within(legal, allowance, 6, 6, 6, 14));
+    w = legal;
+    w.stride = SIZE_MAX;
+    lend_planes(legal, 0, 0);
+    CHECK(is_not_within(w, allowance, 6, 6, 6, 9));
+    w = legal;
+    w.source_stride = SIZE_MAX;
+    CHECK(is_not_within(w, allowance, 6, 6, 6, 14));
+}
+
+static void refused_allowances(void)
+{
+    static const uint32_t low[4] = {0, 1, 19, 113};
+    const whole legal = {17, 33, 17, 20, 0, 2};
+    for (int k = 0; k < 4; k++) {
+        lend_planes(legal, 0, 0);
+        CHECK(is_not_within(legal, low[k], 6, 6, 6, 30));
+        refused_with_allowance(low[k]);
+    }
+    refused_with_allowance(114);
+    refused_with_allowance(UINT32_MAX);
+    lend_planes(legal, 0, 0);
+    CHECK(is_within(legal, 114, 114));
+}
+
+/* Any of 23, 8, 9, 14, 15 and 30 at once, a bit of `wrong` for each: the first is given. */
+static void allowances_refused_in_order(void)
+{
+    static const uint32_t order[6] = {23, 8, 9, 14, 15, 30};
+    static const size_t sizes[3][2] = {{0, 33}, {17, 0}, {16384, 33}};
+    for (unsigned wrong = 1; wrong < 64; wrong++)
+        for (unsigned k = 0; k < 3; k++) {
+            whole w = {17, 33, 17, 20, 0, 2};
+            size_t lengths[3] = {6, 6, 6}, first = 0;
+            lend_planes(w, wrong >> 2 & 1, wrong >> 3 & 1);
+            if ((wrong & 1) != 0)
+                w.version = 3;
+            if ((wrong & 2) != 0) {
+                w.width = sizes[k][0];
+                w.height = sizes[k][1];
+            }
+            if ((wrong & 16) != 0)
+                lengths[k] = 5;
+            while ((wrong >> first & 1) == 0)
+                first++;
+            uint32_t allowance = (wrong & 32) != 0 ? 113 - 50 * k : 114;
+            CHECK(is_not_within(w, allowance, lengths[0], lengths[1], lengths[2], order[first]));
+        }
+}
+
+/* The longest sides: 1024 macroblocks. */
+static void longest_pictures_within(void)
+{
+    whole wide = {16383, 1, 0, 0, 0, 0}, high = {1, 16383, 0, 0, 0, 1};
+    lend_planes(wide, 0, 0);
+    CHECK(is_not_within(wide, 19 * 1024 - 1, 1024, 1024, 1024, 30));
+    CHECK(is_not_within(wide, 19 * 1024 - 1, 1024, 1024, 1023, 15));
+    CHECK(is_within(wide, 19 * 1024, 19 * 1024));
+    CHECK(check_account(wide, 30 * 1024) > 0);
+    lend_planes(high, 0, 0);
+    CHECK(is_not_within(high, 19 * 1024 - 1, 1024, 1024, 1024, 30));
+    CHECK(is_within(high, 19 * 1024, 19 * 1024));
 }
 
 static int curve_has(uint8_t strength, size_t e, uint32_t w)
@@ -1297,6 +1621,19 @@ int main(void)
     refused_in_order();
     far_strides();
     longest_pictures();
+    fewest_and_most_comparisons();
+    one_macroblock_within();
+    allowances_by_account();
+    allowances_one_by_one();
+    allowances_without_motion();
+    allowances_on_a_slope();
+    for (uint8_t version = 0; version <= 2; version++) {
+        allowances_to_the_last_vector(0, version);
+        allowances_to_the_last_vector(1, version);
+    }
+    refused_allowances();
+    allowances_refused_in_order();
+    longest_pictures_within();
     weight_curves();
     frames_as_numbers();
     refused_builds(CHECKS_ONLY);

@@ -2,10 +2,11 @@
  * Computes the worked cases of docs/MODEL.md, section 8, with the library, from the formulas that the page states, and
  * prints each as it stands there: a block that opens with ```worked NAME. `tests/worked/run` compares the two.
  *
- * Three kinds of numbers are not the library's answers: the cost of a displacement, for which it is asked for the SAD of
- * two blocks; the products of a filter, from which its sample has to follow; and the vectors of a round's tries, of a
- * refinement's square and of the pairs of `orders`, of which it gives the SADs. Searches and SADs are those of version
- * 0, but in `bilinear` and `picture`. The program ends with status 1 where something that has to agree does not.
+ * Four kinds of numbers are not the library's answers: the cost of a displacement, for which it is asked for the SAD of
+ * two blocks; the products of a filter, from which its sample has to follow; the vectors of a round's tries, of a
+ * refinement's square and of the pairs of `orders`, of which it gives the SADs; and the grants of an allowance, from
+ * which its lists and its comparisons have to follow. Searches and SADs are those of version 0, but in `bilinear`,
+ * `picture` and `allowance`. The program ends with status 1 where something that has to agree does not.
  */
 #include "vp8model.h"
 
@@ -700,6 +701,18 @@ typedef struct picture_call {
     size_t sads_len;
 } picture_call;
 
+static void print_lists(const int16_t *rows, const int16_t *cols, const uint32_t *held, size_t shown)
+{
+    printf("; rows");
+    for (size_t i = 0; i < shown; i++)
+        printf(" %d", rows[i]);
+    printf("; columns");
+    for (size_t i = 0; i < shown; i++)
+        printf(" %d", cols[i]);
+    print_words("; SADs", held, shown);
+    printf("\n");
+}
+
 /* The entries of the lists, first 7, and one more than the picture has macroblocks. */
 static void print_picture(picture_call c)
 {
@@ -710,16 +723,10 @@ static void print_picture(picture_call c)
                                                       source_plane, c.source_len, c.source_stride, c.limit, c.version,
                                                       rows, shown, cols, shown, held, c.sads_len);
     if (p.refusal != 0)
-        printf("%s: refusal %" PRIu32 "; rows", c.what, p.refusal);
+        printf("%s: refusal %" PRIu32, c.what, p.refusal);
     else
-        printf("%s: macroblocks %" PRIu32 "; rows", c.what, p.macroblocks);
-    for (size_t i = 0; i < shown; i++)
-        printf(" %d", rows[i]);
-    printf("; columns");
-    for (size_t i = 0; i < shown; i++)
-        printf(" %d", cols[i]);
-    print_words("; SADs", held, shown);
-    printf("\n");
+        printf("%s: macroblocks %" PRIu32, c.what, p.macroblocks);
+    print_lists(rows, cols, held, shown);
 }
 
 static void picture(void)
@@ -746,6 +753,103 @@ static void picture(void)
     }
     for (size_t i = 0; i < sizeof calls / sizeof calls[0]; i++)
         print_picture(calls[i]);
+    close_case();
+}
+
+/* ---- a picture within an allowance: 48 by 16, all rows alike, and three macroblocks */
+
+#define STRIP_WIDTH 48
+#define STRIP_SAMPLES (STRIP_WIDTH * 16)
+
+static uint8_t strip[STRIP_SAMPLES], strip_source[STRIP_SAMPLES];
+
+static void lend_flat(void)
+{
+    memset(strip, 100, sizeof strip);
+    memset(strip_source, 103, sizeof strip_source);
+}
+
+/* The source is the slope, and 40 below it but in the first macroblock; turned, but in the last. */
+static void lend_slope(int turned)
+{
+    for (int i = 0; i < STRIP_SAMPLES; i++) {
+        int x = i % STRIP_WIDTH, along = turned ? STRIP_WIDTH - 1 - x : x;
+        strip[i] = (uint8_t)(4 * along);
+        strip_source[i] = (uint8_t)(along < 16 ? 4 * along : 4 * along - 40);
+    }
+}
+
+/* What the single calls give for a macroblock with so many rounds, and the comparisons that they make. */
+static vp8model_search strip_search(size_t column, uint32_t rounds, uint32_t *made)
+{
+    vp8model_status f = vp8model_fetch_luma_mb_whole_pixel(strip_source, STRIP_SAMPLES, STRIP_WIDTH, STRIP_WIDTH, 16,
+                                                           16 * column, 0, 0, 0, source);
+    vp8model_diamond d = vp8model_small_diamond_search_luma(strip, STRIP_SAMPLES, STRIP_WIDTH, STRIP_WIDTH, 16, column,
+                                                            0, source, 0, 0, rounds);
+    vp8model_search h = vp8model_half_pixel_refine_luma(strip, STRIP_SAMPLES, STRIP_WIDTH, STRIP_WIDTH, 16, column, 0,
+                                                        source, d.row, d.col, 1);
+    vp8model_search q = vp8model_quarter_pixel_refine_luma(strip, STRIP_SAMPLES, STRIP_WIDTH, STRIP_WIDTH, 16, column,
+                                                           0, source, h.row, h.col, 1);
+    require(f.refusal == 0 && d.refusal == 0 && h.refusal == 0 && q.refusal == 0, "a single call was refused");
+    *made = d.sads + 9 + 9;
+    return q;
+}
+
+/* The grants and rounds of the three macroblocks and the comparisons of each, whose sum is given; with those rounds the
+ * single calls have to give the lists. */
+static uint32_t print_account(uint32_t allowance, const int16_t *rows, const int16_t *cols, const uint32_t *held)
+{
+    uint32_t remains = allowance, grants[3], rounds[3], made[3];
+    for (uint32_t i = 0; i < 3; i++) {
+        grants[i] = remains / (3 - i);
+        rounds[i] = (grants[i] - 19) / 4;
+        vp8model_search q = strip_search(i, rounds[i], &made[i]);
+        require(q.row == rows[i] && q.col == cols[i] && q.sad == held[i], "an entry does not follow from its grant");
+        remains -= made[i];
+    }
+    print_words("grants", grants, 3);
+    print_words("; rounds", rounds, 3);
+    print_words("; comparisons", made, 3);
+    printf("\n");
+    return allowance - remains;
+}
+
+/* The entries of the lists, first 7, and one more than the picture has macroblocks; `sads_len` of the last are lent. */
+static void print_allowance(const char *what, uint32_t allowance, uint8_t version, size_t sads_len)
+{
+    int16_t rows[4] = {MARK, MARK, MARK, MARK}, cols[4] = {MARK, MARK, MARK, MARK};
+    uint32_t held[4] = {MARK, MARK, MARK, MARK};
+    vp8model_allowed a = vp8model_search_picture_luma_within(strip, STRIP_SAMPLES, STRIP_WIDTH, STRIP_WIDTH, 16,
+                                                             strip_source, STRIP_SAMPLES, STRIP_WIDTH, allowance,
+                                                             version, rows, 4, cols, 4, held, sads_len);
+    if (a.refusal != 0) {
+        printf("%s: refusal %" PRIu32, what, a.refusal);
+    } else {
+        printf("%s: ", what);
+        uint32_t made = print_account(allowance, rows, cols, held);
+        require(made == a.comparisons, "the comparisons do not follow from the grants");
+        printf("%s: macroblocks %" PRIu32 ", comparisons %" PRIu32, what, a.macroblocks, a.comparisons);
+    }
+    print_lists(rows, cols, held, 4);
+}
+
+static void allowance(void)
+{
+    open_case("allowance");
+    lend_flat();
+    print_allowance("flat, T = 100", 100, 1, 4);
+    print_allowance("flat, T = 57", 57, 1, 4);
+    print_allowance("flat, T = 56", 56, 1, 4);
+    lend_slope(0);
+    print_allowance("slope, T = 100", 100, 1, 4);
+    print_allowance("slope, T = 57", 57, 1, 4);
+    print_allowance("slope, T = 60", 60, 1, 4);
+    print_allowance("slope, T = 61", 61, 1, 4);
+    print_allowance("slope, T = 4294967295", UINT32_MAX, 1, 4);
+    print_allowance("slope, T = 56, SADs of 2", 56, 1, 2);
+    print_allowance("slope, T = 56, version 3", 56, 3, 4);
+    lend_slope(1);
+    print_allowance("slope turned, T = 100", 100, 1, 4);
     close_case();
 }
 
@@ -803,6 +907,7 @@ int main(void)
     two_passes();
     bilinear();
     picture();
+    allowance();
     narrow_strides();
     return 0;
 }

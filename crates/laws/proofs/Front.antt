@@ -49,6 +49,16 @@ module _ {A : Type 0} where
   unfolding front
   front-length n f old h = length-append (listOf n f) (drop n old) ∙ omega (arith, length-listOf n f, length-drop n old)
 
+  -- entries that are the same give the same front
+  listOf-same : (n : ℕ) (f g : ℕ → A) → ((k : ℕ) → k < n → f k ≡ g k) → listOf n f ≡ listOf n g
+  unfolding listOf
+  listOf-same zero f g h = refl
+  listOf-same (suc n) f g h = ap₂ (λ (l : List A) (a : A). l ++ (a ∷ [])) (listOf-same n f g (λ k l. h k (omega arith))) (h n (omega arith))
+
+  pub front-same : (n : ℕ) (f g : ℕ → A) (old : List A) → ((k : ℕ) → k < n → f k ≡ g k) → front n f old ≡ front n g old
+  unfolding front
+  front-same n f g old h = ap (λ (l : List A). l ++ drop n old) (listOf-same n f g h)
+
   -- a loop fills the front: i of n entries are done, the others are as they were
   pub record Fronting (f : ℕ → A) (n : ℕ) (old now : List A) (i : ℕ) : Type 0 where
     pub count : i ≤ n

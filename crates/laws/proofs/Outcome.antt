@@ -1,7 +1,7 @@
 -- Laws of outcomes: what is known where a call is accepted. Assumes nothing.
-use mathlib.Core.Path.{_≡_, refl, sym}
+use mathlib.Core.Path.{_≡_, refl, sym, ap}
 use mathlib.Core.Bool.{Bool, true, false, cond, _||_}
-use mathlib.Core.List.{List, [], _∷_}
+use mathlib.Core.List.{List, [], _∷_, _++_}
 use Prim.Native.Nat.{ℕ}
 use lib.Dec.{T, eqb}
 use borrow.Author.Tests.{eq-eqb}
@@ -72,3 +72,30 @@ never-refused ls a n v h e = differ (sym (refused-has ls a n v e)) h
   where
     differ : true ≡ has n ls → has n ls ≡ false → ⊥
     differ p q = let z : _≡_ {A = ℕ} 0 1 = cc in omega arith
+
+-- two refusals that are the same are so for every kind of answer
+pub refused-alike : {A B : Type 0} (m n : ℕ) (u v : List ℕ) → _≡_ {A = Outcome A} (refused m u) (refused n v) → _≡_ {A = Outcome B} (refused m u) (refused n v)
+refused-alike m n u v e = ap anew e
+  where
+    anew : {A B : Type 0} → Outcome A → Outcome B
+    anew (refused k w) = refused k w
+    anew (accepted a) = refused 0 []
+
+-- lines with others behind them: a refusal by the first of them stands, and where they accept, the others decide
+pub refused-first : {A B : Type 0} (ls ms : List Line) (a : A) (b : B) (k : ℕ) (v : List ℕ) → firstOf ls a ≡ refused k v → firstOf (ls ++ ms) b ≡ refused k v
+refused-first [] ms a b k v e = absurd (never k v a (sym e))
+refused-first (l ∷ ls) ms a b k v e = go (λ h. refused-first ls ms a b k v h) (l .test) e
+  where
+    go : (firstOf ls a ≡ refused k v → firstOf (ls ++ ms) b ≡ refused k v) → (t : Bool) → cond t (refused (l .number) (l .values)) (firstOf ls a) ≡ refused k v
+        → cond t (refused (l .number) (l .values)) (firstOf (ls ++ ms) b) ≡ refused k v
+    go ih true h = refused-alike _ _ _ _ h
+    go ih false h = ih h
+
+pub accepted-first : {A B : Type 0} (ls ms : List Line) (a x : A) (b : B) → firstOf ls a ≡ accepted x → firstOf (ls ++ ms) b ≡ firstOf ms b
+accepted-first [] ms a x b e = refl
+accepted-first (l ∷ ls) ms a x b e = go (λ h. accepted-first ls ms a x b h) (l .test) e
+  where
+    go : (firstOf ls a ≡ accepted x → firstOf (ls ++ ms) b ≡ firstOf ms b) → (t : Bool) → cond t (refused (l .number) (l .values)) (firstOf ls a) ≡ accepted x
+        → cond t (refused (l .number) (l .values)) (firstOf (ls ++ ms) b) ≡ firstOf ms b
+    go ih true h = absurd (never _ _ x h)
+    go ih false h = ih h

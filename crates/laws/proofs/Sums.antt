@@ -29,6 +29,11 @@ unfolding sumBelow
 sum-most f zero m h = omega arith
 sum-most f (suc n) m h = omega (arith, sum-most f n m h, h n)
 
+pub sum-least : (f : ℕ → ℕ) (n m : ℕ) → ((k : ℕ) → m ≤ f k) → m * n ≤ sumBelow f n
+unfolding sumBelow
+sum-least f zero m h = omega arith
+sum-least f (suc n) m h = omega (arith, sum-least f n m h, h n)
+
 -- summands that are sums of two
 pub sum-plus : (f g : ℕ → ℕ) (n : ℕ) → sumBelow (λ k. f k + g k) n ≡ sumBelow f n + sumBelow g n
 unfolding sumBelow

@@ -15,7 +15,9 @@ use Rattle.prediction.specs.declared.motion_comp.FilterSet.{FilterSet}
 use Rattle.prediction.specs.declared.motion_comp.FilterSet.the-variants.{Sixtap, Bilinear}
 use Rattle.search.specs.declared.SearchResult.{SearchResult}
 use Rattle.search.specs.declared.DiamondResult.{DiamondResult}
+use Rattle.search.specs.declared.allowance.PictureWork.{PictureWork}
 use Rattle.search.specs.Picture.{Lists, pictureExpected, PictureSearched}
+use Rattle.search.specs.Allowance.{allowanceExpected, AllowanceIs}
 use Rattle.window.specs.declared.Size.{Size}
 use Rattle.denoiser.specs.declared.Built.{Built}
 use Rattle.numbers.specs.declared.answers.Status.{Status}
@@ -26,6 +28,7 @@ use Rattle.numbers.specs.declared.answers.Ceiled.{Ceiled}
 use Rattle.numbers.specs.declared.answers.Search.{Search}
 use Rattle.numbers.specs.declared.answers.Diamond.{Diamond}
 use Rattle.numbers.specs.declared.answers.Picture.{Picture}
+use Rattle.numbers.specs.declared.answers.Allowed.{Allowed}
 use Rattle.numbers.specs.declared.answers.Build.{Build}
 
 -- a truth value: 1 or 0
@@ -78,6 +81,10 @@ abbrev pub pictureNumbers : Outcome ℕ → Picture
 pictureNumbers (accepted n) = record { refusal = 0; macroblocks = n }
 pictureNumbers (refused k values) = record { refusal = k; macroblocks = 0 }
 
+abbrev pub allowedNumbers : Outcome PictureWork → Allowed
+allowedNumbers (accepted w) = record { refusal = 0; macroblocks = w .macroblocks; comparisons = w .comparisons }
+allowedNumbers (refused k values) = record { refusal = k; macroblocks = 0; comparisons = 0 }
+
 -- a build's numbers in order: refusal, width, height, accepted, other width, other height, frame
 abbrev pub build : ℕ → ℕ → ℕ → ℕ → ℕ → ℕ → ℕ → Build
 build k w h a ow oh g = record { refusal = k; width = w; height = h; accepted = a; «other_width» = ow; «other_height» = oh; frame = g }
@@ -108,3 +115,8 @@ pub record Fills (lines : List Line) (block old : List ℕ) (r : Status) (held :
 pub record Searches (version limit : ℕ) (plane source : Plane) (r : Picture) (old new : Lists) : Type 0 where
   pub numbers : r ≡ pictureNumbers (pictureExpected version plane source old)
   pub held : PictureSearched version limit plane source (pictureExpected version plane source old) old new
+
+-- the search of a picture within an allowance, in the same way
+pub record Allows (version allowance : ℕ) (plane source : Plane) (r : Allowed) (old new : Lists) : Type 0 where
+  pub numbers : r ≡ allowedNumbers (allowanceExpected version plane source allowance old)
+  pub held : AllowanceIs version allowance plane source (allowanceExpected version plane source allowance old) old new

@@ -63,6 +63,14 @@ pub struct Picture {
     pub macroblocks: u32,
 }
 
+// The macroblocks of a picture that were searched within an allowance, and the comparisons made for them.
+#[repr(C)]
+pub struct Allowed {
+    pub refusal: u32,
+    pub macroblocks: u32,
+    pub comparisons: u32,
+}
+
 // A builder's answer, or the values of its refusal.
 #[repr(C)]
 pub struct Build {

@@ -1,6 +1,7 @@
 // Answers as the numbers that C gets: one total function for each kind of answer.
 pub mod answers;
 
+use crate::answers::Allowed;
 use crate::answers::Build;
 use crate::answers::Ceiled;
 use crate::answers::Diamond;
@@ -16,6 +17,7 @@ use prediction::motion_vector::Mv;
 use search::DiamondAnswer;
 use search::SadAnswer;
 use search::SearchAnswer;
+use search::allowance::AllowanceAnswer;
 use search::picture::PictureAnswer;
 use sixtap::Interpolated;
 use window::Checked;
@@ -27,9 +29,10 @@ ghost use Rattle.sixtap.specs.Refusals.{sampleOutcome};
 ghost use Rattle.fetch.specs.Refusals.{fetchOutcome};
 ghost use Rattle.search.specs.Refusals.{sadOutcome, searchOutcome, diamondOutcome};
 ghost use Rattle.search.specs.Picture.{pictureOutcome};
+ghost use Rattle.search.specs.Allowance.{allowanceOutcome};
 ghost use Rattle.window.specs.Refusals.{checkedOutcome, refusalOutcome};
 ghost use Rattle.denoiser.specs.Build.{buildOutcome};
-ghost use Rattle.numbers.specs.Answers.{bit, filterNumber, numberOf, vectorNumbers, sampleNumbers, sadNumbers, ceiledNumbers, searchNumbers, diamondNumbers, pictureNumbers, build, buildNumbers, checkNumbers};
+ghost use Rattle.numbers.specs.Answers.{bit, filterNumber, numberOf, vectorNumbers, sampleNumbers, sadNumbers, ceiledNumbers, searchNumbers, diamondNumbers, pictureNumbers, allowedNumbers, build, buildNumbers, checkNumbers};
 
 // A truth value as 1 or 0.
 pub fn bit_of(b: bool) -> u8
@@ -214,6 +217,36 @@ pub fn picture_numbers(answer: PictureAnswer) -> Picture
         PictureAnswer::ShortSource => picture_refused(14),
         PictureAnswer::ShortList => picture_refused(15),
         PictureAnswer::BadVersion => picture_refused(23),
+    }
+}
+
+// A refused search of a picture within an allowance.
+fn allowed_refused(number: u32) -> Allowed
+    ensures { λ r. ⌜ r ≡ allowedNumbers (refused number []) ⌝ }
+{
+    Allowed {
+        refusal: number,
+        macroblocks: 0,
+        comparisons: 0,
+    }
+}
+
+// The numbers of the answer to a search of a picture within an allowance.
+pub fn allowed_numbers(answer: AllowanceAnswer) -> Allowed
+    ensures { λ r. ⌜ r ≡ allowedNumbers (allowanceOutcome answer) ⌝ }
+{
+    match answer {
+        AllowanceAnswer::Searched(w) => Allowed {
+            refusal: 0,
+            macroblocks: w.macroblocks,
+            comparisons: w.comparisons,
+        },
+        AllowanceAnswer::BadSize => allowed_refused(8),
+        AllowanceAnswer::ShortPlane => allowed_refused(9),
+        AllowanceAnswer::ShortSource => allowed_refused(14),
+        AllowanceAnswer::ShortList => allowed_refused(15),
+        AllowanceAnswer::BadVersion => allowed_refused(23),
+        AllowanceAnswer::LowAllowance => allowed_refused(30),
     }
 }
 

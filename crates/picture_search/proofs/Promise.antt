@@ -22,7 +22,7 @@ use Rattle.picture_search.specs.Internal.{Legal, Filled}
 -- what an accepted call knows
 module _ (version : ℕ) (plane source : Plane) (l : Lists) (a : PictureAnswer) (n : ℕ) (e : pictureOutcome a ≡ pictureExpected version plane source l)
     (f : a ≡ Searched n) where
-  found : pictureExpected version plane source l ≡ accepted n
+  pub found : pictureExpected version plane source l ≡ accepted n
   found = sym e ∙ ap pictureOutcome f
 
   none : Skipped (pictureLines version plane source l)
@@ -56,7 +56,7 @@ module _ (version : ℕ) (plane source : Plane) (l : Lists) (a : PictureAnswer) 
       at = pictureAt (rowsFor version) plane source limit
 
 -- on a refusal the lists are what they were
-kept-at : (expected : Outcome ℕ) (n : ℕ) (at : ℕ → SearchedMb) (l : Lists) (k : ℕ) (v : List ℕ) → refused k v ≡ expected → PictureIs expected n at (refused k v) l l
+pub kept-at : {A : Type 0} (expected : Outcome A) (n : ℕ) (at : ℕ → SearchedMb) (l : Lists) (k : ℕ) (v : List ℕ) → refused k v ≡ expected → PictureIs expected n at (refused k v) l l
 kept-at expected n at l k v e =
     record {
       answer = e;

@@ -1,8 +1,10 @@
 -- What the private functions ask of their arguments. No public contract uses these definitions. Assumes nothing.
 use mathlib.Core.Path.{_≡_}
 use mathlib.Core.Bool.{false}
+use mathlib.Core.List.{List}
 use Prim.Native.Nat.{ℕ, _≤_}
 use Rattle.laws.specs.Front.{front}
+use Rattle.laws.specs.Outcome.{Outcome, refused}
 use Rattle.prediction.specs.declared.motion_vector.Mv.{Mv}
 use Rattle.prediction.specs.Plane.{Plane}
 use Rattle.prediction.specs.Refusals.{badSize, shortPlane}
@@ -33,3 +35,7 @@ pub record Legal (version : ℕ) (plane source : Plane) : Type 0 where
   pub size : badSize plane ≡ false
   pub long : shortPlane plane ≡ false
   pub source-long : shortPlane source ≡ false
+
+-- a refusal is given as the same one
+abbrev pub RefusedAs : {A B : Type 0} → Outcome A → Outcome B → Type 0
+RefusedAs o p = (k : ℕ) (v : List ℕ) → o ≡ refused k v → p ≡ refused k v

@@ -1,4 +1,6 @@
 // The luma motion search of a whole picture, by the public calls for one macroblock.
+pub mod allowance;
+
 use fetch::bad_size;
 use fetch::fetch_luma_mb_whole_pixel;
 use fetch::short_plane;

@@ -15,6 +15,15 @@ pub(crate) fn number(record: &[u8; 128], index: usize) -> usize {
     stored::number(record, index)
 }
 
+// The macroblocks of a record, and the comparisons made for them: the lower and the upper half of its last number.
+pub(crate) fn macroblocks(record: &[u8; 128]) -> usize {
+    number(record, 15) % 4294967296
+}
+
+pub(crate) fn comparisons(record: &[u8; 128]) -> usize {
+    number(record, 15) / 4294967296
+}
+
 pub(crate) fn byte(n: usize) -> u8 {
     (n % 256) as u8
 }

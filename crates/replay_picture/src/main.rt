@@ -1,12 +1,13 @@
-// Replays the stored answers of the whole-picture search, made by single calls of the Rust originals, at versions 1 and 2 of
-// a copy that takes a version, and by a second implementation, and the refusals on the crate `picture_search`, and prints
-// how many cases it compared and how many differ. The layout of `samples` and `cases` is written in oracle/src/picture/mod.rs.
+// Replays the stored answers of the whole-picture searches, within a limit and within an allowance, made by single calls of
+// the Rust originals, at versions 1 and 2 of a copy that takes a version, and by a second implementation, and the refusals
+// on the crate `picture_search`, and prints how many cases it compared and how many differ. The layout of `samples` and
+// `cases` is written in oracle/src/picture/mod.rs.
 mod calls;
 mod lists;
 mod tally;
 
 // Whether to go on after a record.
-fn replay_one(fd: i32, samples: &[u8], counts: &mut [u64; 4]) -> bool {
+fn replay_one(fd: i32, samples: &[u8], counts: &mut [u64; 8]) -> bool {
     let mut record = [0u8; 128];
     if io::read_full(fd, &mut record) < 128 {
         tally::print_failure(counts, b"the file ends early");
@@ -17,11 +18,11 @@ fn replay_one(fd: i32, samples: &[u8], counts: &mut [u64; 4]) -> bool {
         tally::print_all(counts, lists::number(&record, 1));
         return false;
     }
-    if kind != 1 {
+    if kind != 1 && kind != 2 {
         tally::print_failure(counts, b"a record of no known kind");
         return false;
     }
-    let macroblocks = lists::number(&record, 15);
+    let macroblocks = lists::macroblocks(&record);
     let mut payload = lists::payload_buffer();
     if !lists::read_entries(fd, &mut payload, macroblocks) {
         tally::print_failure(counts, b"entries that end early or are too many");
@@ -29,6 +30,7 @@ fn replay_one(fd: i32, samples: &[u8], counts: &mut [u64; 4]) -> bool {
     }
     tally::add(
         counts,
+        kind,
         macroblocks,
         calls::agrees(samples, &payload, &record),
     );
@@ -37,7 +39,7 @@ fn replay_one(fd: i32, samples: &[u8], counts: &mut [u64; 4]) -> bool {
 
 // A proved loop has to end, so this one counts its turns down, from more than any file has records.
 fn replay(fd: i32, samples: &[u8]) {
-    let mut counts = [0u64; 4];
+    let mut counts = [0u64; 8];
     let mut turns = u64::MAX;
     while turns > 0 && replay_one(fd, samples, &mut counts) {
         turns -= 1;

@@ -13,3 +13,6 @@ pub mod Numbers
 pub mod Versions
 pub mod Raster
 pub mod Pictures
+pub mod Sharing
+pub mod Rounds
+pub mod Allowances

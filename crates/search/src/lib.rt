@@ -1,5 +1,6 @@
 // What the definitions of the SADs and of the luma motion searches speak of; the code that is held to them stands in the
 // crate `motion_search`.
+pub mod allowance;
 pub mod picture;
 
 use prediction::motion_vector::Mv;

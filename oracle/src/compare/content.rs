@@ -5,20 +5,22 @@ use crate::paper::Plane;
 use crate::random::Random;
 use std::sync::OnceLock;
 
-/// The kinds of `bytes` and of `macroblock`.
+/// The kinds of `bytes`, but for the slope, and of `macroblock`.
 pub const KINDS: u64 = 10;
 pub const SOURCES: u64 = 5;
 pub const CUT: u64 = 3;
 pub const TEXTURE: u64 = 4;
 pub const STEEP: u64 = 8;
 pub const TILES: u64 = 9;
+pub const SLOPE: u64 = KINDS;
 
 const SIDE: usize = 256;
 
 /// So many bytes, read as rows of `pitch`: flat, a gradient, checkers, levels about the denoiser's cut-off in
 /// chunks of a row each, a smooth texture, the same with noise, noise of few levels, noise. For the searches also a
 /// slope, steep up and down, by rows or by columns, where a candidate is lost after a few rows; and a small tile of
-/// noise again and again, where places a period apart tie.
+/// noise again and again, where places a period apart tie. Last one even slope from 0 up to 255, by columns or by rows
+/// as the seed's lowest bit says, or down to 0 where the next one is set.
 pub fn bytes(kind: u64, seed: u64, len: usize, pitch: usize) -> Vec<u8> {
     let pitch = pitch.clamp(1, len.max(1));
     let mut random = Random::new(seed);
@@ -47,10 +49,15 @@ pub fn bytes(kind: u64, seed: u64, len: usize, pitch: usize) -> Vec<u8> {
             let height = |(row, col): (usize, usize)| step * (if down { row } else { col }) % 510;
             (0..len).map(|i| height(at(i)).min(510 - height(at(i))) as u8).collect()
         }
-        _ => {
+        TILES => {
             let [rows, cols] = [0; 2].map(|_| random.pick(&[1, 2, 3, 4, 8]));
             let tile = random.bytes(rows * cols);
             (0..len).map(|i| tile[at(i).0 % rows * cols + at(i).1 % cols]).collect()
+        }
+        _ => {
+            let along = |(row, col): (usize, usize)| if seed & 1 == 1 { row } else { col };
+            let turned = |level: u8| if seed & 2 == 2 { 255 - level } else { level };
+            (0..len).map(|i| turned(along(at(i)).min(255) as u8)).collect()
         }
     }
 }

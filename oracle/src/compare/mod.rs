@@ -2,8 +2,9 @@
 //!
 //! Where a call is refused, the expected number and values come from refusals.rs, and every lent slice must
 //! hold what it held; elsewhere the originals' answer decides, with the counts of counts.rs, and at a version that of
-//! versions.rs. A whole picture's is that of their single calls.
+//! versions.rs. A whole picture's is that of their single calls, within an allowance with an account kept beside them.
 
+mod allowances;
 mod answer;
 mod builds;
 mod ceilings;
@@ -43,11 +44,12 @@ struct Plant {
     place: usize,
 }
 
-static PLANTS: [Plant; 4] = [
+static PLANTS: [Plant; 5] = [
     Plant { word: "--plant", call: "small_diamond_search_luma", number: "width", above: 20, place: 2 },
     Plant { word: "--plant-rows", call: "block_sad_16x16_up_to", number: "ceiling", above: 20, place: 1 },
     Plant { word: "--plant-version", call: "quarter_pixel_refine_luma", number: "version", above: 0, place: 2 },
     Plant { word: "--plant-picture", call: "search_picture_luma", number: "width", above: 20, place: 3 },
+    Plant { word: "--plant-count", call: "search_picture_luma_within", number: "allowance", above: 60, place: 1 },
 ];
 
 /// Runs the comparison; whether every answer was the same. None where the words are not understood.
@@ -96,9 +98,9 @@ fn kinds() -> Vec<&'static Kind> {
     static DEFAULT: Kind = numbers::DEFAULT;
     static NUMBERS: [Kind; 14] = numbers::KINDS;
     static PLANES: [Kind; 12] = planes::KINDS;
-    static PICTURE: Kind = pictures::KIND;
+    static PICTURES: [Kind; 2] = [allowances::KIND, pictures::KIND];
     static BUILDS: [Kind; 5] = builds::KINDS;
-    std::iter::once(&DEFAULT).chain(&NUMBERS).chain(&PLANES).chain([&PICTURE]).chain(&BUILDS).collect()
+    std::iter::once(&DEFAULT).chain(&NUMBERS).chain(&PLANES).chain(&PICTURES).chain(&BUILDS).collect()
 }
 
 // Both answers. A panic of the original is a fault.
@@ -131,7 +133,7 @@ fn report(run: Run, index: u64, input: Input) {
 struct Tally {
     kinds: Vec<&'static Kind>,
     counts: Vec<[u64; 2]>,
-    refused: [u64; 24],
+    refused: [u64; 31],
     done: u64,
     last: Instant,
 }
@@ -140,7 +142,7 @@ impl Tally {
     fn new() -> Tally {
         let kinds = kinds();
         let counts = vec![[0; 2]; kinds.len()];
-        Tally { kinds, counts, refused: [0; 24], done: 0, last: Instant::now() }
+        Tally { kinds, counts, refused: [0; 31], done: 0, last: Instant::now() }
     }
 
     fn add(&mut self, input: &Input, pair: &Pair) {
@@ -161,7 +163,7 @@ impl Tally {
         for (kind, [accepted, refused]) in self.kinds.iter().zip(&self.counts) {
             println!("  {:<28} {accepted:>7} accepted {refused:>7} refused", kind.name);
         }
-        let numbers = (1..16).chain([23]);
+        let numbers = (1..16).chain([23, 30]);
         let by_number: Vec<String> = numbers.map(|number| format!("{number}: {}", self.refused[number])).collect();
         println!("  refusals by number: {}", by_number.join(", "));
     }

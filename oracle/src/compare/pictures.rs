@@ -13,6 +13,7 @@ use crate::paper::search::{PictureCall, search_picture};
 use crate::pictures::{Found, by_single_calls, cut};
 use crate::random::Random;
 use crate::refusals::{legal_size, plane_is_short};
+use std::fmt::Debug;
 
 #[rustfmt::skip]
 const FIELDS: &[&str] = &[
@@ -23,11 +24,20 @@ const FIELDS: &[&str] = &[
 pub const KIND: Kind = Kind { name: "search_picture_luma", weight: 100, fields: FIELDS, draw, answers };
 
 /// The source is the reference's own bytes at 0, follows from them below this, and is other content from here on.
-const OTHER: u64 = 4;
+pub const OTHER: u64 = 4;
 
 // Accepted in three of four.
 fn draw(random: &mut Random) -> Drawn {
-    let (width, height) = draw_size(random);
+    let size = draw_size(random);
+    let mut all = draw_of_size(random, size);
+    if random.percent(25) {
+        spoil(random, &mut all, size, 5);
+    }
+    (all, vec![])
+}
+
+/// A picture that is accepted, in the order of the fields.
+pub fn draw_of_size(random: &mut Random, (width, height): (u64, u64)) -> Vec<i128> {
     let [stride, source_stride] = [0; 2].map(|_| draw_stride(random, width, height));
     let [len, source_len] = [stride, source_stride].map(|stride| {
         let more = if random.percent(30) { random.below(50) } else { 0 };
@@ -43,18 +53,15 @@ fn draw(random: &mut Random) -> Drawn {
     let last = [source_len, source_stride.into(), limit.into(), random.below(3).into()];
     let mut all = [plane, size, last].concat();
     all.extend(lists.map(i128::from));
-    if random.percent(25) {
-        spoil(random, &mut all, (width, height));
-    }
-    (all, vec![])
+    all
 }
 
-fn macroblocks(width: u64, height: u64) -> u64 {
+pub fn macroblocks(width: u64, height: u64) -> u64 {
     width.div_ceil(16) * height.div_ceil(16)
 }
 
 // 1 to 70 both ways; one row in some; a row or a column of 1024 macroblocks in very few.
-fn draw_size(random: &mut Random) -> (u64, u64) {
+pub fn draw_size(random: &mut Random) -> (u64, u64) {
     let mut side = || match random.below(100) {
         0..65 => 1 + random.below(70),
         _ => random.pick(&[1, 2, 15, 16, 17, 31, 32, 33, 47, 48, 49, 64, 65, 70]),
@@ -78,16 +85,21 @@ fn draw_stride(random: &mut Random, width: u64, height: u64) -> u64 {
     }
 }
 
-fn needed(stride: u64, width: u64, height: u64) -> i128 {
+pub fn needed(stride: u64, width: u64, height: u64) -> i128 {
     (i128::from(height) - 1) * i128::from(stride) + i128::from(width)
 }
 
-// One of 23, 8, 9, 14 and 15, in half of them another with it, and seldom more.
-fn spoil(random: &mut Random, all: &mut [i128], size: (u64, u64)) {
-    let place = |name: &str| FIELDS.iter().position(|field| *field == name).expect("a field");
-    let (one, any) = (random.below(5), random.below(5));
+/// The place of a number.
+pub fn place(name: &str) -> usize {
+    FIELDS.iter().position(|field| *field == name).expect("a field")
+}
+
+/// One of so many refusals, the first five of which are 23, 8, 9, 14 and 15, in half of them another with it, and seldom
+/// more. Whether the last one is among them.
+pub fn spoil(random: &mut Random, all: &mut [i128], size: (u64, u64), refusals: u64) -> bool {
+    let (one, any) = (random.below(refusals), random.below(refusals));
     let other = if random.percent(40) { one } else { any };
-    let spoilt: [bool; 5] = std::array::from_fn(|k| [one, other].contains(&(k as u64)) || random.percent(5));
+    let spoilt: Vec<bool> = (0..refusals).map(|k| [one, other].contains(&k) || random.percent(5)).collect();
     if spoilt[0] {
         all[place("version")] = random.pick(&[3, 4, 128, 255]);
     }
@@ -105,6 +117,7 @@ fn spoil(random: &mut Random, all: &mut [i128], size: (u64, u64)) {
         let fewer = macroblocks(size.0, size.1) - 1;
         all[place(random.pick(&["rows_len", "cols_len", "sads_len"]))] = random.pick(&[fewer, fewer, 0]).into();
     }
+    *spoilt.last().expect("a refusal")
 }
 
 // One byte short, no byte, or a stride that needs more than any plane has; of some the product is small in 64 bits.
@@ -119,8 +132,8 @@ fn spoil_plane(random: &mut Random, all: &mut [i128], [len, stride]: [usize; 2],
     }
 }
 
-// Both planes and the other numbers. Where no source stands by itself, it is the plane's bytes.
-struct Case {
+/// Both planes and the version. Where no source stands by itself, it is the plane's bytes.
+pub struct Case {
     plane: Guarded<u8>,
     len: usize,
     stride: usize,
@@ -129,12 +142,12 @@ struct Case {
     source: Option<Guarded<u8>>,
     source_len: usize,
     source_stride: usize,
-    limit: u32,
     version: u8,
 }
 
 impl Case {
-    fn of(input: &Input) -> Case {
+    /// A source of its own shows so many macroblocks of the reference as they are: the first, or below 0 the last.
+    pub fn of(input: &Input, still: i128) -> Case {
         let [len, stride, width, height] = ["len", "stride", "width", "height"].map(|name| input.size(name));
         let [source_len, source_stride] = ["source_len", "source_stride"].map(|name| input.size(name));
         let [kind, seed] = ["source", "source_seed"].map(|name| input.get(name) as u64);
@@ -142,24 +155,47 @@ impl Case {
         let [content, content_seed] = ["content", "content_seed"].map(|name| input.get(name) as u64);
         let bytes = content::bytes(content, content_seed, lent, pitch(len, stride, width));
         let plane = Guarded::holding(&bytes, input.salt);
-        let (limit, version) = (input.get("max_iters") as u32, input.get("version") as u8);
-        let source = None;
-        let case = Case { plane, len, stride, width, height, source, source_len, source_stride, limit, version };
-        let source = (kind > 0).then(|| Guarded::holding(&case.drawn_source(kind, seed), input.salt ^ 1));
+        let (source, version) = (None, input.get("version") as u8);
+        let case = Case { plane, len, stride, width, height, source, source_len, source_stride, version };
+        let source = (kind > 0).then(|| {
+            let mut bytes = case.drawn_source(kind, seed);
+            case.hold_still(&mut bytes, still);
+            Guarded::holding(&bytes, input.salt ^ 1)
+        });
         Case { source, ..case }
+    }
+
+    // Whether the size is legal and both planes are long enough.
+    fn is_whole(&self) -> bool {
+        let (width, height) = (self.width as u64, self.height as u64);
+        let enough = |len: usize, stride: usize| !plane_is_short(len as u64, stride as u64, width, height);
+        legal_size(width, height) && enough(self.len, self.stride) && enough(self.source_len, self.source_stride)
+    }
+
+    fn hold_still(&self, bytes: &mut [u8], still: i128) {
+        if still == 0 || !self.is_whole() {
+            return;
+        }
+        let columns = self.width.div_ceil(16);
+        let count = (columns * self.height.div_ceil(16)) as i128;
+        let held = if still > 0 { 0..still } else { count + still..count };
+        for (row, col) in (0..self.height).flat_map(|row| (0..self.width).map(move |col| (row, col))) {
+            if held.contains(&((row / 16 * columns + col / 16) as i128)) {
+                bytes[row * self.source_stride + col] = self.paper().sample(col as i64, row as i64);
+            }
+        }
     }
 
     // Where both planes are long enough the reference moved by a few samples, the same with noise, or the mean of two
     // neighbours there; rows that overlap are written one after the other.
     fn drawn_source(&self, kind: u64, seed: u64) -> Vec<u8> {
-        let Case { len, stride, width, height, source_len, source_stride, .. } = *self;
+        let Case { width, height, source_len, source_stride, .. } = *self;
         if kind >= OTHER {
             return content::bytes(kind - OTHER, seed, source_len, pitch(source_len, source_stride, width));
         }
         let mut random = Random::new(seed);
         let mut bytes = random.bytes(source_len);
-        let short = |len, stride| plane_is_short(len as u64, stride as u64, width as u64, height as u64);
-        if !legal_size(width as u64, height as u64) || short(len, stride) || short(source_len, source_stride) {
+        if !self.is_whole() {
             return bytes;
         }
         let reach = random.pick(&[1, 4, 12]);
@@ -181,11 +217,11 @@ impl Case {
         &self.plane.slice()[..self.len]
     }
 
-    fn source(&self) -> (&[u8], usize) {
+    pub fn source(&self) -> (&[u8], usize) {
         (&self.source.as_ref().unwrap_or(&self.plane).slice()[..self.source_len], self.source_stride)
     }
 
-    fn luma(&self) -> Luma<'_> {
+    pub fn luma(&self) -> Luma<'_> {
         let Case { stride, width, height, .. } = *self;
         Luma { plane: self.reference(), stride, width, height }
     }
@@ -195,33 +231,46 @@ impl Case {
         Plane { bytes: self.reference(), stride, width, height }
     }
 
-    fn original(&self) -> Vec<Found> {
-        let Luma { plane, stride, width, height } = self.luma();
-        by_single_calls(LumaRef { plane, stride, width, height }, self.source(), self.limit, self.version)
+    pub fn version(&self) -> u8 {
+        self.version
     }
 
-    // The library's calls one by one, none of them refused.
-    fn singly(&self) -> Vec<Found> {
-        let (luma, columns) = (self.luma(), self.width.div_ceil(16));
-        let found = |i: usize| {
-            let mb = (i % columns, i / columns);
-            let src = cut(self.source(), (self.width, self.height), mb);
-            let whole = model::small_diamond_search_luma(luma, mb, &src, Mv::default(), self.limit);
-            let mv = Mv { row: whole.row, col: whole.col };
-            let half = model::half_pixel_refine_luma(luma, mb, &src, mv, self.version);
-            let mv = Mv { row: half.row, col: half.col };
-            let quarter = model::quarter_pixel_refine_luma(luma, mb, &src, mv, self.version);
-            assert_eq!([whole.refusal, half.refusal, quarter.refusal], [0; 3], "macroblock {i}");
-            (quarter.row, quarter.col, quarter.sad)
-        };
+    /// As the originals take the reference.
+    pub fn original(&self) -> LumaRef<'_> {
+        let Luma { plane, stride, width, height } = self.luma();
+        LumaRef { plane, stride, width, height }
+    }
+
+    /// A macroblock by the library's single calls, none of them refused, and the SADs of the diamond.
+    pub fn single(&self, mb: (usize, usize), limit: u32) -> (Found, u64) {
+        let (luma, src) = (self.luma(), cut(self.source(), (self.width, self.height), mb));
+        let whole = model::small_diamond_search_luma(luma, mb, &src, Mv::default(), limit);
+        let mv = Mv { row: whole.row, col: whole.col };
+        let half = model::half_pixel_refine_luma(luma, mb, &src, mv, self.version);
+        let mv = Mv { row: half.row, col: half.col };
+        let quarter = model::quarter_pixel_refine_luma(luma, mb, &src, mv, self.version);
+        assert_eq!([whole.refusal, half.refusal, quarter.refusal], [0; 3], "macroblock {mb:?}");
+        ((quarter.row, quarter.col, quarter.sad), whole.sads.into())
+    }
+
+    // All of them.
+    fn singly(&self, limit: u32) -> Vec<Found> {
+        let columns = self.width.div_ceil(16);
+        let found = |i: usize| self.single((i % columns, i / columns), limit).0;
         (0..columns * self.height.div_ceil(16)).map(found).collect()
     }
 
-    fn call(&self, lists: [usize; 3]) -> PictureCall<'_> {
+    pub fn call(&self, lists: [usize; 3]) -> PictureCall<'_> {
         let ((source, source_stride), Luma { plane, stride, width, height }) = (self.source(), self.luma());
         let [stride, width, height, source_stride] = [stride, width, height, source_stride].map(|n| n as u64);
-        let Case { limit, version, .. } = *self;
-        PictureCall { plane, stride, width, height, source, source_stride, limit, version, lists }
+        PictureCall { plane, stride, width, height, source, source_stride, version: self.version, lists }
+    }
+
+    /// An answer with what the call did to the planes and left in the lists.
+    pub fn after(&self, answer: Answer, lists: &Lists) -> Answer {
+        let said = answer.constant("plane", &self.plane);
+        let said = self.source.iter().fold(said, |said, source| said.constant("source", source));
+        said.written("rows", &lists.rows).written("cols", &lists.cols).written("sads", &lists.sads)
     }
 }
 
@@ -229,15 +278,15 @@ fn pitch(len: usize, stride: usize, width: usize) -> usize {
     if stride == 0 || stride > len { width } else { stride }
 }
 
-// The lists, before the call.
-struct Lists {
+/// The lists, before the call.
+pub struct Lists {
     rows: Guarded<i16>,
     cols: Guarded<i16>,
     sads: Guarded<u32>,
 }
 
 impl Lists {
-    fn of(input: &Input) -> Lists {
+    pub fn of(input: &Input) -> Lists {
         let [rows, cols, sads] = lens(input);
         Lists {
             rows: Guarded::noise(rows, input.salt ^ 2),
@@ -246,46 +295,59 @@ impl Lists {
         }
     }
 
-    fn lent(&mut self) -> model::Lists<'_> {
+    pub fn lent(&mut self) -> model::Lists<'_> {
         let Lists { rows, cols, sads } = self;
         model::Lists { rows: rows.slice_mut(), cols: cols.slice_mut(), sads: sads.slice_mut() }
     }
+
+    /// An answer whose lists hold what is found, and behind it what they held.
+    pub fn with(mut self, found: &[Found], answer: Answer) -> Answer {
+        let model::Lists { rows, cols, sads } = self.lent();
+        for (i, one) in found.iter().enumerate() {
+            (rows[i], cols[i], sads[i]) = *one;
+        }
+        answer.holding(rows).holding(cols).holding(sads)
+    }
 }
 
-fn lens(input: &Input) -> [usize; 3] {
+pub fn lens(input: &Input) -> [usize; 3] {
     ["rows_len", "cols_len", "sads_len"].map(|name| input.size(name))
 }
 
 fn answers(input: &Input) -> Pair {
-    let (case, mut lists) = (Case::of(input), Lists::of(input));
-    let got = model::search_picture_luma(case.luma(), case.source(), case.limit, case.version, lists.lent());
-    let said = Answer::new(got.refusal.into(), &[got.macroblocks.into()]).constant("plane", &case.plane);
-    let said = case.source.iter().fold(said, |said, source| said.constant("source", source));
-    let model = said.written("rows", &lists.rows).written("cols", &lists.cols).written("sads", &lists.sads);
-    Pair { model, expected: expected(&case, Lists::of(input), lens(input)) }
+    let (case, mut lists, limit) = (Case::of(input, 0), Lists::of(input), input.get("max_iters") as u32);
+    let got = model::search_picture_luma(case.luma(), case.source(), limit, case.version, lists.lent());
+    let said = Answer::new(got.refusal.into(), &[got.macroblocks.into()]);
+    Pair { model: case.after(said, &lists), expected: expected(&case, input, limit) }
 }
 
-// The lists hold what is found, and behind it what they held.
-fn expected(case: &Case, mut lists: Lists, lens: [usize; 3]) -> Answer {
-    let (refusal, ruled) = match search_picture(&case.call(lens)) {
-        Ok(found) => (0, found),
-        Err(refusal) => (refusal.into(), vec![]),
+fn expected(case: &Case, input: &Input, limit: u32) -> Answer {
+    let ruled = match search_picture(&case.call(lens(input)), limit) {
+        Ok(found) => found,
+        Err(refusal) => return Lists::of(input).with(&[], Answer::new(refusal.into(), &[0])),
     };
-    let (found, singly) = if refusal == 0 { (case.original(), case.singly()) } else { (vec![], vec![]) };
-    let model::Lists { rows, cols, sads } = lists.lent();
-    for (i, one) in found.iter().enumerate() {
-        (rows[i], cols[i], sads[i]) = *one;
-    }
-    let faults = [("the second implementation", ruled), ("the single calls", singly)];
+    let found = by_single_calls(case.original(), case.source(), limit, case.version);
+    let faults = [("the second implementation", ruled), ("the single calls", case.singly(limit))];
     let faults = faults.iter().filter_map(|(name, other)| unlike(name, other, &found)).collect();
-    let said = Answer { faults, ..Answer::new(refusal, &[found.len() as i64]) };
-    said.holding(rows).holding(cols).holding(sads)
+    Lists::of(input).with(&found, Answer { faults, ..Answer::new(0, &[found.len() as i64]) })
 }
 
-// The first macroblock at which another finds something else than the originals.
-fn unlike(name: &str, other: &[Found], found: &[Found]) -> Option<String> {
+/// The first macroblock at which another finds something else than the originals.
+pub fn unlike<T: PartialEq + Debug>(name: &str, other: &[T], found: &[T]) -> Option<String> {
     let i = (0..other.len().max(found.len())).find(|&i| other.get(i) != found.get(i))?;
     Some(format!("macroblock {i}: {name}: {:?}, the originals {:?}", other.get(i), found.get(i)))
+}
+
+/// Of 23, 8, 9, 14 and 15 those that apply, whatever comes before them, and the macroblocks.
+#[cfg(test)]
+pub fn all_that_apply(input: &Input) -> ([bool; 5], u128) {
+    let number = |name: &str| input.get(name) as u64;
+    let (width, height) = (number("width"), number("height"));
+    let short = |len, stride| plane_is_short(number(len), number(stride), width, height.max(1));
+    let count = u128::from(width).div_ceil(16) * u128::from(height).div_ceil(16);
+    let list = lens(input).iter().any(|&n| (n as u128) < count);
+    let size = !legal_size(width, height);
+    ([number("version") > 2, size, short("len", "stride"), short("source_len", "source_stride"), list], count)
 }
 
 #[cfg(test)]
@@ -302,15 +364,8 @@ mod tests {
         inputs.iter().filter(|input| is(input)).count()
     }
 
-    // Of 23, 8, 9, 14 and 15 those that apply, whatever comes before them.
     fn all_that_apply(input: &Input) -> [bool; 5] {
-        let number = |name: &str| input.get(name) as u64;
-        let (width, height) = (number("width"), number("height"));
-        let short = |len, stride| plane_is_short(number(len), number(stride), width, height.max(1));
-        let count = u128::from(width).div_ceil(16) * u128::from(height).div_ceil(16);
-        let list = lens(input).iter().any(|&n| (n as u128) < count);
-        let size = !legal_size(width, height);
-        [number("version") > 2, size, short("len", "stride"), short("source_len", "source_stride"), list]
+        super::all_that_apply(input).0
     }
 
     #[test]
@@ -345,7 +400,7 @@ mod tests {
         }
         for input in refused {
             let first = all_that_apply(&input).iter().position(|&applies| applies).expect("a refusal");
-            let said = search_picture(&Case::of(&input).call(lens(&input)));
+            let said = search_picture(&Case::of(&input, 0).call(lens(&input)), 0);
             assert_eq!(said, Err([23, 8, 9, 14, 15][first]), "{input}");
         }
     }
@@ -355,7 +410,8 @@ mod tests {
     fn drawn_pictures_move() {
         let (mut all, mut whole, mut half, mut quarter) = (0, 0, 0, 0);
         for input in drawn(150).filter(|input| all_that_apply(input) == [false; 5]) {
-            for (row, col, _) in Case::of(&input).original() {
+            let (case, limit) = (Case::of(&input, 0), input.get("max_iters") as u32);
+            for (row, col, _) in by_single_calls(case.original(), case.source(), limit, case.version) {
                 all += 1;
                 match (row, col) {
                     (0, 0) => {}

@@ -51,7 +51,7 @@ pub const KINDS: [Kind; 12] = [
            answers: answer_diamond },
     Kind { name: "half_pixel_refine_luma", weight: 110, fields: VERSIONED, draw: |r| draw_versioned(r, 4),
            answers: answer_half },
-    Kind { name: "quarter_pixel_refine_luma", weight: 110, fields: VERSIONED, draw: |r| draw_versioned(r, 2),
+    Kind { name: "quarter_pixel_refine_luma", weight: 70, fields: VERSIONED, draw: |r| draw_versioned(r, 2),
            answers: answer_quarter },
 ];
 

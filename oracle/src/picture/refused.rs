@@ -4,7 +4,7 @@
 use super::samples::{LEN, NOISE, SMOOTH};
 use super::{Case, Part, ROOM, VERSIONS, Writer, case, needed};
 
-const HUGE: u64 = u64::MAX;
+pub const HUGE: u64 = u64::MAX;
 const HALF: u64 = 1 << 63;
 
 pub fn add(writer: &mut Writer) {
@@ -17,8 +17,8 @@ pub fn add(writer: &mut Writer) {
     add_together(writer);
 }
 
-// Both planes are noise; the source is other noise.
-fn noise(size: (u64, u64), stride: u64, source_stride: u64) -> Case {
+/// Both planes are noise; the source is other noise.
+pub fn noise(size: (u64, u64), stride: u64, source_stride: u64) -> Case {
     Case { limit: 3, ..case(size, (NOISE, stride), (NOISE + 77, source_stride)) }
 }
 
@@ -151,8 +151,8 @@ fn add_together(writer: &mut Writer) {
     }
 }
 
-// Of 23, 8, 9, 14 and 15 those with a bit. The forms break the size and the lists each in their own way.
-fn together(bits: u32, form: usize, version: u8) -> Case {
+/// Of 23, 8, 9, 14 and 15 those with a bit. The forms break the size and the lists each in their own way.
+pub fn together(bits: u32, form: usize, version: u8) -> Case {
     let is = |k: u32| bits >> k & 1 == 1;
     let whole = noise((20, 24), 20, 23);
     let size = if is(1) { [(16384, 24), (20, 16384), (0, 24)][form] } else { whole.size };

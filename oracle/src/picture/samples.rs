@@ -1,5 +1,5 @@
-//! The samples that the cases read: noise, flat parts, ramps, a bowl, textures, pictures that show a texture moved, and
-//! pictures that are symmetric about a diagonal or the transpose of another.
+//! The samples that the cases read: noise, flat parts, ramps, a bowl, textures, pictures that show a texture moved,
+//! pictures that are symmetric about a diagonal or the transpose of another, and those of which a half stands still.
 
 use crate::motion_comp::{BILINEAR_FILTERS, SIXTAP_FILTERS, fetch_luma_mb_halo, sixtap_mb_luma, stored_luma_mv};
 use crate::motion_vector::Mv;
@@ -33,12 +33,18 @@ pub const MIRRORS: usize = BLENDED + 4096;
 /// A texture of 44 columns and 60 rows, and its transpose.
 pub const TALL: usize = MIRRORS + 4 * 4096;
 pub const WIDE: usize = TALL + 2640;
+/// The end of what the cases of kind 1 read.
 pub const LEN: usize = WIDE + 2640;
+/// 64 by 64: the upper half shows what is at `INNER`, the lower half what lies `AHEAD` of that; then the other way round.
+pub const UPPER_STILL: usize = LEN;
+pub const LOWER_STILL: usize = UPPER_STILL + 4096;
+pub const ALL: usize = LOWER_STILL + 4096;
 // What the replay has room for.
-const _: () = assert!(LEN <= 65536);
+const _: () = assert!(ALL <= 65536);
 
 /// Rows and columns, in samples.
 pub const OFF_AXIS: (usize, usize) = (1, 3);
+pub const AHEAD: (usize, usize) = (2, 3);
 
 /// Row and column in quarter pixels.
 const VECTORS: [(i16, i16); 16] = [
@@ -87,7 +93,12 @@ pub fn all() -> Vec<u8> {
     let tall = texture(44, 60, &mut random);
     bytes.extend(&tall);
     bytes.extend((0..2640).map(|i| tall[i % 60 * 44 + i / 60]));
-    assert_eq!(bytes.len(), LEN);
+    for lower in [1, 0] {
+        let at = |i: usize, (down, across): (usize, usize)| bytes[INNER + (i / 64 + down) * 96 + i % 64 + across];
+        let half: Vec<u8> = (0..4096).map(|i| at(i, if i / 2048 == lower { AHEAD } else { (0, 0) })).collect();
+        bytes.extend(half);
+    }
+    assert_eq!(bytes.len(), ALL);
     bytes
 }
 

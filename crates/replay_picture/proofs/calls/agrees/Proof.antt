@@ -50,8 +50,8 @@ number-requires-7 c κs = search needs
 part-requires-2 : tie.Need-part-requires-2
 part-requires-2 c κs = search needs
 
-number-requires-8 : tie.Need-number-requires-8
-number-requires-8 c κs = search needs
+macroblocks-requires : tie.Need-macroblocks-requires
+macroblocks-requires c κs = search needs
 
 entries-of-requires : tie.Need-entries-of-requires
 entries-of-requires c κs = search needs
@@ -99,7 +99,7 @@ agrees-spec =
     number-requires-6
     number-requires-7
     part-requires-2
-    number-requires-8
+    macroblocks-requires
     entries-of-requires
     array-borrow-prefix-rows
     slice-aggregate-searches
