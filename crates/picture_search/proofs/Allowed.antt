@@ -18,10 +18,10 @@ use Rattle.search.specs.declared.picture.SearchedMb.{SearchedMb}
 use Rattle.search.specs.declared.picture.PictureAnswer.{PictureAnswer}
 use Rattle.search.specs.declared.picture.PictureAnswer.the-variants.{Searched, BadSize, ShortPlane, ShortSource, ShortList, BadVersion}
 use Rattle.search.specs.declared.allowance.PictureWork.{PictureWork}
-use Rattle.search.specs.Picture.{mbCount, pictureAt, Lists, pictureLines, pictureExpected, pictureOutcome, PictureIs}
-use Rattle.search.specs.Allowance.{grantOf, roundsFor, remains, grantAt, madeAt, spent, pictureMade, allowedAt, workOf, lowAllowance, allowanceLines, allowanceExpected, AllowanceIs}
+use Rattle.search.specs.Picture.{mbCount, pictureAt, Lists, pictureLines, pictureExpected, pictureOutcome}
+use Rattle.search.specs.Allowance.{grantOf, roundsFor, remains, grantAt, spent, pictureMade, allowedAt, workOf, lowAllowance, allowanceExpected, AllowanceIs}
 use Rattle.search.proofs.picture.PictureAnswer.{the-type}
-use Rattle.search.proofs.Sharing.{Keeps, grant-19, made-remains, account}
+use Rattle.search.proofs.Sharing.{grant-19, made-remains, account}
 use Rattle.search.proofs.Allowances.{picture-keeps}
 use Rattle.picture_search.specs.Internal.{Filled, RefusedAs}
 use Rattle.picture_search.proofs.Promise.{kept-at}

@@ -1,7 +1,7 @@
 -- Laws of a picture's search within an allowance: the grants and the account of its comparisons, and which allowances give what a round
 -- limit gives. Assumes nothing.
 use mathlib.Core.Path.{_≡_, refl, sym, ap, _∙_}
-use mathlib.Core.List.{List, [], _∷_}
+use mathlib.Core.List.{[], _∷_}
 use Prim.Native.Nat.{ℕ, suc, _+_, _-_, _*_, _/_, _%_, _≤_, _<_}
 use native.Mathlib.Omega.{arith}
 use borrow.Author.Tests.{ltb-false}
@@ -15,12 +15,11 @@ use Rattle.prediction.specs.Plane.{Plane, lumaPlane}
 use Rattle.prediction.specs.Filter.{FilterRows, rowsFor}
 use Rattle.search.specs.declared.picture.SearchedMb.{SearchedMb}
 use Rattle.search.specs.declared.allowance.PictureWork.{PictureWork}
-use Rattle.search.specs.Sad.{costIn, costOf}
-use Rattle.search.specs.Picture.{mbColumns, mbCount, sourceBlock, zeroMv, searchedMb, pictureAt, Lists, lists, pictureLines, pictureExpected, PictureSearched}
-use Rattle.search.specs.Allowance.{roundsFor, remains, grantAt, spent, pictureMade, allowedAt, workOf, lowAllowance, allowanceLines, allowanceExpected, AllowanceIs}
+use Rattle.search.specs.Picture.{mbColumns, mbCount, zeroMv, searchedMb, pictureAt, Lists, lists, pictureLines, pictureExpected, PictureSearched}
+use Rattle.search.specs.Allowance.{roundsFor, remains, grantAt, pictureMade, allowedAt, workOf, allowanceLines, allowanceExpected, AllowanceIs}
 use Rattle.search.proofs.Accepted.{also-accepted}
 use Rattle.search.proofs.SadLaws.{cost-most}
-use Rattle.search.proofs.Descent.{sads-most, rounds-limit, limit-none}
+use Rattle.search.proofs.Descent.{sads-most, rounds-limit}
 use Rattle.search.proofs.Rounds.{sads-least, limits-alike}
 use Rattle.search.proofs.Raster.{block-byte}
 use Rattle.search.proofs.Sharing.{Keeps, last-grant, only-grant, grant-19, grant-rises, grant-least, grant-holds, made-granted, unspent-passed-on, spent-most, spent-least, starved-grant}
@@ -83,6 +82,10 @@ module _ (version allowance : ℕ) (plane source : Plane) (outcome : Outcome Pic
 
   pub reported-least : 19 * w .macroblocks ≤ w .comparisons
   reported-least = rw reported (spent-least made allowance n keeps enough)
+
+  -- an allowance of 19 for each is used up
+  pub starved-count : allowance ≡ 19 * w .macroblocks → w .comparisons ≡ allowance
+  starved-count bare = omega (arith, reported-most, reported-least)
 
   -- macroblock i: its grant, and what it makes
   pub record Granted (i : ℕ) : Type 0 where

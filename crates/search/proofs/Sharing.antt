@@ -35,10 +35,6 @@ module _ (made : ℕ → ℕ → ℕ) (T M : ℕ) where
   only-grant e = last-grant 0 (sym e)
 
   module _ (keeps : Keeps made) (enough : 19 * M ≤ T) where
-    -- one more than the macroblocks left after i
-    left-of : (i : ℕ) → i < M → M - i ≡ suc (M - suc i)
-    left-of i h = omega arith
-
     rise : (i : ℕ) → suc i < M → 19 ≤ grantAt made T M i → grantAt made T M i ≤ grantAt made T M (suc i)
     unfolding remains
     rise i h g =

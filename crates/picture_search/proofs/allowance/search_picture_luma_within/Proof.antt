@@ -1,11 +1,11 @@
 -- `search_picture_luma_within` meets its contract. Assumes nothing.
-use mathlib.Core.Path.{_≡_, sym, ap, _∙_}
-use Prim.Native.Nat.{ℕ, _*_, _≤_}
+use mathlib.Core.Path.{sym, ap, _∙_}
+use Prim.Native.Nat.{ℕ}
 use native.Mathlib.Omega.{arith}
 use borrow.Author.Needs.{needs}
 use borrow.Author.Tests.{ltb-false}
 use Rattle.prediction.specs.Plane.{lumaPlane}
-use Rattle.search.specs.Picture.{mbCount, lists}
+use Rattle.search.specs.Picture.{lists}
 use Rattle.search.specs.Allowance.{lowAllowance}
 use Rattle.search.proofs.Raster.{mb-count}
 use Rattle.picture_search.proofs.Promise.{found, legal, counted, room}
