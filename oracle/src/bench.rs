@@ -61,7 +61,8 @@ pub fn run(clip: &[u8]) {
     }
     beside_six_tap(&moving());
     beside_single_calls(&whole);
-    within_allowances(&whole[0]);
+    within_allowances("moving texture", &whole[0]);
+    within_allowances("noise", &Whole::of(NOISE, (WIDTH, HEIGHT)));
     count_rows(clip);
 }
 
@@ -227,9 +228,11 @@ fn moving() -> Scene {
     (plane, macroblocks(&moved, (WIDTH, HEIGHT)))
 }
 
-// Noise in other noise: no candidate is far behind the best.
+/// Noise in other noise: no candidate is far behind the best.
+const NOISE: [(u64, u64); 2] = [(7, 1), (7, 2)];
+
 fn noise() -> Scene {
-    let [plane, other] = [(7, 1), (7, 2)].map(plane_of);
+    let [plane, other] = NOISE.map(plane_of);
     (plane, macroblocks(&other, (WIDTH, HEIGHT)))
 }
 
@@ -256,7 +259,7 @@ fn searches((plane, sources): &Scene) {
     println!("  of that a macroblock, least: model {ours}, Rust {rust}");
 }
 
-/// A picture with sides that are multiples of 16, and its source, of the texture that moves.
+/// A picture with sides that are multiples of 16, and its source.
 struct Whole {
     size: (usize, usize),
     plane: Vec<u8>,
@@ -272,8 +275,12 @@ struct Vectors {
 }
 
 impl Whole {
-    fn moving((width, height): (usize, usize)) -> Whole {
-        let [plane, source] = MOVING.map(|(kind, seed)| content::bytes(kind, seed, width * height, width));
+    fn moving(size: (usize, usize)) -> Whole {
+        Whole::of(MOVING, size)
+    }
+
+    fn of(contents: [(u64, u64); 2], (width, height): (usize, usize)) -> Whole {
+        let [plane, source] = contents.map(|(kind, seed)| content::bytes(kind, seed, width * height, width));
         Whole { size: (width, height), plane, source }
     }
 
@@ -386,12 +393,12 @@ const NO_LIMIT: u32 = 65281;
 const EACH: [u32; 8] = [19, 23, 27, 31, 40, 60, 100, 200];
 
 // The model alone: a picture within an allowance, in the first columns, beside the same without a limit.
-fn within_allowances(whole: &Whole) {
+fn within_allowances(content: &str, whole: &Whole) {
     let count = whole.count() as u32;
     println!(
         "the model's search of a picture within an allowance beside the one with the limit {NO_LIMIT}, which is never"
     );
-    println!("reached: {}; ratio = the latter's time / the former's:", whole.name());
+    println!("reached: {}, {content}; ratio = the latter's time / the former's:", whole.name());
     print_head("within", "no limit");
     let [within, none] = beside_no_limit(whole, "no more than 4294967295", u32::MAX);
     let [least, median] = [0, 1].map(|k| within[k] / none[k]);

@@ -8,8 +8,6 @@ use native.Mathlib.Numerals.{add-one}
 use native.Mathlib.Omega.{arith}
 use types.Run.{OneOf, miss}
 use denote.Enum.Declared.{tagOf}
-use Rattle.laws.specs.Front.{front}
-use Rattle.laws.proofs.Front.{after-accepted}
 use Rattle.laws.specs.Outcome.{Outcome, refused, accepted, Line, line, firstOf}
 use Rattle.laws.proofs.Outcome.{never, refused-alike, refused-first, accepted-first}
 use Rattle.prediction.specs.Plane.{Plane}
@@ -24,7 +22,7 @@ use Rattle.search.proofs.picture.PictureAnswer.{the-type}
 use Rattle.search.proofs.Sharing.{grant-19, made-remains, account}
 use Rattle.search.proofs.Allowances.{picture-keeps}
 use Rattle.picture_search.specs.Internal.{Filled, RefusedAs}
-use Rattle.picture_search.proofs.Promise.{kept-at}
+use Rattle.picture_search.proofs.Promise.{filled-as, kept-at}
 
 -- before macroblock i of n what remains is known
 module _ (set : FilterRows) (plane source : Plane) (allowance n i r : ℕ) (count : n ≡ mbCount plane)
@@ -102,12 +100,7 @@ module _ (version allowance : ℕ) (plane source : Plane) (l : Lists) where
         → AllowanceIs version allowance plane source (accepted (record { macroblocks = n; comparisons = c })) l held
     worked-is e held c count made h =
         let f : allowanceExpected version plane source allowance l ≡ accepted work = by-30 ∙ ap (λ (t : Bool). cond t (refused 30 []) (accepted work)) e in
-        record {
-          answer = rw (made, count) (sym f);
-          rows = h .rows ∙ ap (λ (k : ℕ). front k (λ i. at i .mv .row) (l .rows)) count ∙ sym (after-accepted (l .rows) _ f);
-          cols = h .cols ∙ ap (λ (k : ℕ). front k (λ i. at i .mv .col) (l .cols)) count ∙ sym (after-accepted (l .cols) _ f);
-          sads = h .sads ∙ ap (λ (k : ℕ). front k (λ i. at i .sad) (l .sads)) count ∙ sym (after-accepted (l .sads) _ f);
-        }
+        filled-as _ _ (mbCount plane) n at l held (f ∙ rw (made, count) refl) count h
 
   -- a refusal of theirs is the call's
   refusal-is : (p : Outcome PictureWork) (k : ℕ) (v : List ℕ) → refused k v ≡ pictureExpected version plane source l → p ≡ refused k v

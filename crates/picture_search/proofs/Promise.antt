@@ -19,6 +19,17 @@ use Rattle.search.specs.Picture.{mbCount, pictureAt, Lists, pictureLines, pictu
 use Rattle.search.proofs.picture.PictureAnswer.{the-type}
 use Rattle.picture_search.specs.Internal.{Legal, Filled}
 
+-- where the outcome is known and the loop has filled the fronts, the lists are as promised
+pub filled-as : {A : Type 0} (expected : Outcome A) (x : A) (m n : ℕ) (at : ℕ → SearchedMb) (l held : Lists) → expected ≡ accepted x → n ≡ m → Filled n at l held
+    → PictureIs expected m at (accepted x) l held
+filled-as expected x m n at l held found count h =
+    record {
+      answer = sym found;
+      rows = h .rows ∙ ap (λ (k : ℕ). front k (λ i. at i .mv .row) (l .rows)) count ∙ sym (after-accepted (l .rows) _ found);
+      cols = h .cols ∙ ap (λ (k : ℕ). front k (λ i. at i .mv .col) (l .cols)) count ∙ sym (after-accepted (l .cols) _ found);
+      sads = h .sads ∙ ap (λ (k : ℕ). front k (λ i. at i .sad) (l .sads)) count ∙ sym (after-accepted (l .sads) _ found);
+    }
+
 -- what an accepted call knows
 module _ (version : ℕ) (plane source : Plane) (l : Lists) (a : PictureAnswer) (n : ℕ) (e : pictureOutcome a ≡ pictureExpected version plane source l)
     (f : a ≡ Searched n) where
@@ -44,16 +55,7 @@ module _ (version : ℕ) (plane source : Plane) (l : Lists) (a : PictureAnswer) 
   -- and promises
   pub filled-is : (limit : ℕ) (held : Lists) → Filled n (pictureAt (rowsFor version) plane source limit) l held
       → PictureSearched version limit plane source (accepted n) l held
-  filled-is limit held h =
-      record {
-        answer = sym found;
-        rows = h .rows ∙ ap (λ (k : ℕ). front k (λ i. at i .mv .row) (l .rows)) counted ∙ sym (after-accepted (l .rows) _ found);
-        cols = h .cols ∙ ap (λ (k : ℕ). front k (λ i. at i .mv .col) (l .cols)) counted ∙ sym (after-accepted (l .cols) _ found);
-        sads = h .sads ∙ ap (λ (k : ℕ). front k (λ i. at i .sad) (l .sads)) counted ∙ sym (after-accepted (l .sads) _ found);
-      }
-    where
-      at : ℕ → SearchedMb
-      at = pictureAt (rowsFor version) plane source limit
+  filled-is limit held h = filled-as _ n (mbCount plane) n (pictureAt (rowsFor version) plane source limit) l held found counted h
 
 -- on a refusal the lists are what they were
 pub kept-at : {A : Type 0} (expected : Outcome A) (n : ℕ) (at : ℕ → SearchedMb) (l : Lists) (k : ℕ) (v : List ℕ) → refused k v ≡ expected → PictureIs expected n at (refused k v) l l
