@@ -406,24 +406,49 @@ fn within_allowances(content: &str, whole: &Whole) {
     for each in EACH {
         beside_no_limit(whole, &format!("{each} for each"), each * count);
     }
+    let sources = macroblocks(&whole.source, whole.size);
+    let limits = EACH.map(|each| limits_within(whole, &sources, each * count));
+    // from 60 on no diamond of these pictures is cut short
+    for (each, limits) in EACH.into_iter().zip(&limits).filter(|(each, _)| *each < 60) {
+        apart(whole, &sources, &format!("{each} for each"), limits);
+    }
     println!("rows measured within these allowances, as below, and the passes of the refinements' filters:");
-    for each in EACH {
-        let rows = rows_within(whole, each * count);
+    for (each, limits) in EACH.into_iter().zip(&limits) {
+        let mut rows = [Rows::default(); 3];
+        let both = sources.iter().zip(limits);
+        both.for_each(|(source, limit)| rows::add_searches(&mut rows, whole.luma(), source, *limit));
         let name = format!("{each} for each, passes {} and {}", rows[1].passes, rows[2].passes);
         print_rows(&name, rows);
     }
 }
 
-// By the account of the library's single calls.
-fn rows_within(whole: &Whole, allowance: u32) -> [Rows; 3] {
-    let mut rows = [Rows::default(); 3];
+// The limits of the diamonds, by the account of the library's single calls.
+fn limits_within(whole: &Whole, sources: &[Source], allowance: u32) -> Vec<u32> {
+    let mut limits = Vec::new();
     by_account(whole.size, allowance, |mb, limit| {
-        let src = cut((&whole.source, whole.size.0), whole.size, mb);
-        rows::add_searches(&mut rows, whole.luma(), &(mb, src), limit);
-        let diamond = model::small_diamond_search_luma(whole.luma(), mb, &src, Mv::default(), limit);
+        let src = &sources[limits.len()].1;
+        limits.push(limit);
+        let diamond = model::small_diamond_search_luma(whole.luma(), mb, src, Mv::default(), limit);
         ((diamond.row, diamond.col, diamond.sad), diamond.sads.into())
     });
-    rows
+    limits
+}
+
+// The three searches apart, in single calls: with the limits that an allowance gives, in the first columns, beside those
+// without one.
+fn apart(whole: &Whole, sources: &[Source], name: &str, limits: &[u32]) {
+    let (luma, none) = (whole.luma(), vec![NO_LIMIT; sources.len()]);
+    let diamonds = |limits: &[u32]| {
+        for ((mb, src), limit) in sources.iter().zip(limits) {
+            black_box(model::small_diamond_search_luma(luma, *mb, black_box(src), Mv::default(), *limit));
+        }
+    };
+    measure(&format!("{name}: diamonds"), || diamonds(limits), || diamonds(&none));
+    let [within, without] = [limits, &none[..]].map(|limits| starts(luma, sources.iter().zip(limits.iter().copied())));
+    for ((part, refine, _), (ours, other)) in [HALF, QUARTER].into_iter().zip(within.into_iter().zip(without)) {
+        let all = |starts: &[Start]| starts.iter().for_each(|start| _ = refined(refine, luma, start, 0));
+        measure(&format!("{name}: {part} refinements"), || all(&ours), || all(&other));
+    }
 }
 
 // Both give the same where the allowance is the greatest.
@@ -440,20 +465,23 @@ fn beside_no_limit(whole: &Whole, name: &str, allowance: u32) -> [[f64; 2]; 2] {
 // A macroblock and the centre of its refinement.
 type Start<'a> = (&'a Source, Mv);
 
-// Those of the half refinement, where the diamond ends, and of the quarter one after it, at version 0.
-fn starts<'a>((plane, sources): &'a Scene) -> [Vec<Start<'a>>; 2] {
-    let luma = reference(plane).0;
-    let whole = |source: &'a Source| {
-        let d = model::small_diamond_search_luma(luma, source.0, &source.1, Mv::default(), 64);
+// Those of the half refinement, where the diamond with its limit ends, and of the quarter one after it, at version 0.
+fn starts<'a>(luma: Luma, limited: impl Iterator<Item = (&'a Source, u32)>) -> [Vec<Start<'a>>; 2] {
+    let whole = |(source, limit): (&'a Source, u32)| {
+        let d = model::small_diamond_search_luma(luma, source.0, &source.1, Mv::default(), limit);
         (source, Mv { row: d.row, col: d.col })
     };
     let half = |(source, mv): &Start<'a>| {
         let h = model::half_pixel_refine_luma(luma, source.0, &source.1, *mv, 0);
         (*source, Mv { row: h.row, col: h.col })
     };
-    let halves: Vec<Start> = sources.iter().map(whole).collect();
+    let halves: Vec<Start> = limited.map(whole).collect();
     let quarters = halves.iter().map(half).collect();
     [halves, quarters]
+}
+
+fn in_64_rounds((_, sources): &Scene) -> impl Iterator<Item = (&Source, u32)> {
+    sources.iter().map(|source| (source, 64))
 }
 
 type Refine = fn(Luma, (usize, usize), &[u8; 256], Mv, u8) -> model::Search;
@@ -471,7 +499,7 @@ fn refined(refine: Refine, luma: Luma, (source, mv): &Start, version: u8) -> Fou
 // Each refinement at version 1 for each of the 396 macroblocks, beside the derived copy.
 fn refinements(scene: &Scene) {
     let (luma, same) = reference(&scene.0);
-    for ((name, model, rust), starts) in [HALF, QUARTER].into_iter().zip(starts(scene)) {
+    for ((name, model, rust), starts) in [HALF, QUARTER].into_iter().zip(starts(luma, in_64_rounds(scene))) {
         let ours = |start: &Start| refined(model, luma, start, 1);
         let rust = |(source, mv): &Start| {
             let got = rust(*black_box(&same), source.0, black_box(&source.1), black_box(*mv), black_box(1));
@@ -489,7 +517,7 @@ fn beside_six_tap(scene: &Scene) {
     let bilinear = || _ = filtered(model::bilinear_mb_luma, &halo, (2, 6), &mut one);
     measure("macroblock (2, 6)", bilinear, || _ = filtered(model::sixtap_mb_luma, &halo, (2, 6), &mut other));
     let luma = reference(&scene.0).0;
-    for ((name, refine, _), starts) in [HALF, QUARTER].into_iter().zip(starts(scene)) {
+    for ((name, refine, _), starts) in [HALF, QUARTER].into_iter().zip(starts(luma, in_64_rounds(scene))) {
         let all = |version| starts.iter().for_each(|start| _ = refined(refine, luma, start, version));
         measure(&format!("{name}, 396 macroblocks"), || all(1), || all(0));
     }
