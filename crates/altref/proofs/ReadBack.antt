@@ -15,9 +15,9 @@ use Rattle.altref.proofs.Laws.{length-flat}
 pub read-count : (fs : List Frame) → frameCount (flat fs) ≡ length fs
 read-count fs = omega (arith, length-flat fs)
 
--- a frame by its seven numbers
+-- a frame by its eight numbers
 abbrev frameBy : (ℕ → ℕ) → Frame
-frameBy n = record { width = n 0; height = n 1; y = n 2; u = n 3; v = n 4; «luma_stride» = n 5; «chroma_stride» = n 6 }
+frameBy n = record { width = n 0; height = n 1; y = n 2; u = n 3; v = n 4; «luma_stride» = n 5; «chroma_stride» = n 6; cap = n 7 }
 
 same-frame : (m n : ℕ → ℕ) → ((k : ℕ) → m k ≡ n k) → frameBy m ≡ frameBy n
 same-frame m n e = simp e

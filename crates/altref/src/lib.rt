@@ -36,6 +36,8 @@ fn put_frame(numbers: [u32; ARRAY_SIZE], i: usize, f: Frame) -> [u32; ARRAY_SIZE
     out[at] = f.luma_stride;
     at += 1;
     out[at] = f.chroma_stride;
+    at += 1;
+    out[at] = f.cap;
     out
 }
 

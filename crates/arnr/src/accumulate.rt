@@ -19,7 +19,7 @@ ghost use Rattle.denoiser.specs.Grid.{gridBlock, gridSide, blockIn, unitOf};
 ghost use Rattle.denoiser.specs.Search.{displacedBy, displacementIn};
 ghost use Rattle.denoiser.specs.Window.{gate, costOf, displacementOf, sadAccepted, blockAccepted, acceptedIn};
 ghost use Rattle.denoiser.specs.Pictures.{pictureOf, othersOf};
-ghost use Rattle.denoiser.specs.Internal.{Fits, Whole, Short, Span, Lies, Lent, Slack, Light, Frames, Measured, Raised, Placed, Spread, within, between, rowShare, rowTerm, shareBy, termBy, planeIn, packedPlane, numbersOf, packedPicture, packedScene, curveRule, curveShare, curveTerm};
+ghost use Rattle.denoiser.specs.Internal.{Fits, Whole, Short, Span, Lies, Lent, Slack, Light, Frames, Measured, Raised, Placed, Spread, within, between, rowShare, rowTerm, shareBy, termBy, planeIn, packedPlane, numbersOf, packedPicture, packedScene, curveRule, curveShare, curveTerm, cappedCurve, otherShare, otherTerm, otherBlocks};
 
 // The weight of a displaced sample against the centre's.
 fn share(curve: &[u32; 256], d: u8, c: u8) -> u32
@@ -412,7 +412,21 @@ fn blend_frame(
     count
 }
 
-// All frames but the centre. The number of accepted blocks.
+// A frame's curve: the lesser of its cap and the curve's weight, at each difference.
+fn capped(curve: &[u32; 256], cap: u32) -> [u32; 256]
+    ensures { λ r. ⌜ r ≡ cappedCurve (now (curve .entry)) cap ⌝ }
+{
+    let mut cut = [0; 256];
+    let mut e: usize = 0;
+    while e < 256 {
+        let weight = curve[e];
+        cut[e] = if cap < weight { cap } else { weight };
+        e += 1;
+    }
+    cut
+}
+
+// All frames but the centre, each with its curve cut at its cap. The number of accepted blocks.
 pub(crate) fn blend_frames(
     bytes: &[u8],
     numbers: &[u32],
@@ -430,11 +444,11 @@ pub(crate) fn blend_frames(
     requires { ⌜ Lent (packedSize w h) (now out) (now sums) (now weights) ⌝ }
     requires { ⌜ Light (now curve) ⌝ }
     requires { ⌜ Slack 1030 (now sums) (now weights) ⌝ }
-    ensures { λ r. ⌜ r ≡ sumOver (acceptedIn (curveRule (now (curve .entry)) (packedScene w h (now (out .entry)))) (packedScene w h (now (out .entry))))
+    ensures { λ r. ⌜ r ≡ sumOver (otherBlocks (now (curve .entry)) (packedScene w h (now (out .entry))))
         (othersOf (now (bytes .entry)) (now (numbers .entry)) centre count) ⌝ }
-    ensures { λ _. ⌜ Spread w h (λ k x y. sumOver (λ f. curveTerm (now (curve .entry)) (packedScene w h (now (out .entry))) f k x y) (othersOf
+    ensures { λ _. ⌜ Spread w h (λ k x y. sumOver (λ f. otherTerm (now (curve .entry)) (packedScene w h (now (out .entry))) f k x y) (othersOf
         (now (bytes .entry)) (now (numbers .entry)) centre count)) (now (sums .entry)) (now (sums .exit)) ⌝ }
-    ensures { λ _. ⌜ Spread w h (λ k x y. sumOver (λ f. curveShare (now (curve .entry)) (packedScene w h (now (out .entry))) f k x y) (othersOf
+    ensures { λ _. ⌜ Spread w h (λ k x y. sumOver (λ f. otherShare (now (curve .entry)) (packedScene w h (now (out .entry))) f k x y) (othersOf
         (now (bytes .entry)) (now (numbers .entry)) centre count)) (now (weights .entry)) (now (weights .exit)) ⌝ }
 {
     let mut total: u32 = 0;
@@ -444,10 +458,12 @@ pub(crate) fn blend_frames(
             g += 1;
             continue;
         }
+        let cap = window::frame_at(numbers, g).cap;
+        let cut = capped(curve, cap);
         total += blend_frame(
             bytes,
             window::frame_at(numbers, g),
-            curve,
+            &cut,
             out,
             sums,
             weights,

@@ -10,7 +10,7 @@ use weights::ArnrConfig;
 use window::Checked;
 ghost use Rattle.denoiser.specs.Build.{BuildIs, asked};
 
-// The builder over the numbers of the frames: seven for each, numbers left over are not read.
+// The builder over the numbers of the frames: eight for each, numbers left over are not read.
 pub fn build_from_numbers(
     bytes: &[u8],
     numbers: &[u32],

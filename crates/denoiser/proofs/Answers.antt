@@ -11,7 +11,7 @@ use Rattle.prediction.specs.Plane.{bytesNeeded}
 use Rattle.window.specs.declared.Frame.{Frame}
 use Rattle.window.specs.declared.Size.{Size}
 use Rattle.window.specs.declared.Refusal.{Refusal}
-use Rattle.window.specs.declared.Refusal.the-variants.{NoCentre, TooManyFrames, BadSize, OtherSize, PlaneUnfit, ShortOutput, ShortWorking}
+use Rattle.window.specs.declared.Refusal.the-variants.{NoCentre, TooManyFrames, BadSize, OtherSize, CapTooHigh, PlaneUnfit, ShortOutput, ShortWorking}
 use Rattle.window.specs.declared.Checked.{Checked}
 use Rattle.window.specs.declared.Checked.the-variants as checked
 use Rattle.window.specs.Layout.{half, sideOf, packedSize}
@@ -21,7 +21,7 @@ use Rattle.window.proofs.Built as window
 use Rattle.denoiser.specs.declared.Built.{Built}
 use Rattle.denoiser.specs.declared.BuildAnswer.{BuildAnswer}
 use Rattle.denoiser.specs.declared.BuildAnswer.the-variants.{Done, Refused}
-use Rattle.denoiser.specs.Window.{Picture, Scene, Rule, sumAt, totalAt, denoisedAt, arnrRule}
+use Rattle.denoiser.specs.Window.{Scene, Rule, sumAt, totalAt, denoisedAt, arnrRule}
 use Rattle.denoiser.specs.Demand.{Held, Demand3}
 use Rattle.denoiser.specs.Build.{Request, BuildInput, givenOf, sceneOf, windowOf, cropped, filled, builtOf, samplesOf, outcomeOf, buildOutcome, outputAfter, workingAfter, BuildBy}
 use Rattle.denoiser.specs.Internal.{Fits, Whole, Frames, Lent, Legal, Made, numbersOf}
@@ -49,6 +49,7 @@ retag-refusal NoCentre b = refl
 retag-refusal TooManyFrames b = refl
 retag-refusal (BadSize s) b = refl
 retag-refusal (OtherSize s c) b = refl
+retag-refusal (CapTooHigh g) b = refl
 retag-refusal (PlaneUnfit g) b = refl
 retag-refusal ShortOutput b = refl
 retag-refusal ShortWorking b = refl
@@ -59,6 +60,7 @@ after-refusal NoCentre old new = refl
 after-refusal TooManyFrames old new = refl
 after-refusal (BadSize s) old new = refl
 after-refusal (OtherSize s c) old new = refl
+after-refusal (CapTooHigh g) old new = refl
 after-refusal (PlaneUnfit g) old new = refl
 after-refusal ShortOutput old new = refl
 after-refusal ShortWorking old new = refl
@@ -68,6 +70,7 @@ never NoCentre a e = laws.never 1 [] a e
 never TooManyFrames a e = laws.never 2 [] a e
 never (BadSize s) a e = laws.never 3 _ a e
 never (OtherSize s c) a e = laws.never 4 _ a e
+never (CapTooHigh g) a e = laws.never 29 _ a e
 never (PlaneUnfit g) a e = laws.never 5 _ a e
 never ShortOutput a e = laws.never 6 [] a e
 never ShortWorking a e = laws.never 7 [] a e

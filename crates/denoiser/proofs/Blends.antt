@@ -2,7 +2,6 @@
 use mathlib.Core.Path.{_≡_, refl, sym, ap, _∙_}
 use mathlib.Core.List.{List}
 use Prim.Native.Nat.{ℕ, _+_, _*_, _/_, _^_, _≤_, _<_}
-use native.Mathlib.Nat.{le-refl}
 use native.Mathlib.Omega.{arith}
 use native.Mathlib.Decide.{decLt}
 use lib.IntN.{pos}
@@ -11,14 +10,15 @@ use Rattle.laws.specs.Sums.{sumOver}
 use Rattle.laws.proofs.Sums.{sum-over-same}
 use Rattle.laws.specs.Tabulate.{tabulate}
 use Rattle.weights.specs.Weights.{weightRead}
+use Rattle.weights.proofs.Weights.{capped}
 use Rattle.weights.specs.Blend.{totalWeight, weightedSum, denoised}
 use Rattle.laws.proofs.Each.{Each}
 use Rattle.window.specs.Layout.{sideOf, packedSize, placeOf}
 use Rattle.window.specs.Frames.{frameAt, frameCount}
-use Rattle.denoiser.specs.Window.{Picture, Scene, Window, Rule, centreAt, shareOf, totalAt, sumAt, denoisedAt, acceptedIn, acceptedBlocks, displacedAt, arnrRule}
-use Rattle.denoiser.specs.Pictures.{pictureOf, othersOf}
+use Rattle.denoiser.specs.Window.{Scene, Window, Rule, centreAt, shareOf, totalAt, sumAt, denoisedAt, acceptedIn, acceptedBlocks, displacedAt, arnrRule}
+use Rattle.denoiser.specs.Pictures.{pictureOf, otherOf, othersOf}
 use Rattle.denoiser.specs.Build.{Request, sceneOf, windowOf, packed}
-use Rattle.denoiser.specs.Internal.{Room, Slack, Front, Spread, Shows, Ready, Legal, packedPicture, packedScene, curveRule, curveShare, curveTerm}
+use Rattle.denoiser.specs.Internal.{Room, Slack, Front, Spread, Shows, Ready, Legal, packedPicture, packedScene, otherShare, otherTerm, otherBlocks}
 use Rattle.denoiser.proofs.Demands.{Fair, sample-byte, total-some, total-most, sum-most}
 use Rattle.denoiser.proofs.Join.{Agree, share-joined, term-joined, count-joined, curve-at}
 use Rattle.denoiser.proofs.Others.{others-each, others-count}
@@ -44,13 +44,13 @@ module _ (q : Request) (w h : ℕ) (legal : Legal q w h) (byte : (i : ℕ) → g
   unfolding displacedAt
   displaced-byte g k x y = picture-byte (q .bytes) (frameAt (q .numbers) g) byte k _ _
 
-  fair-frame : (g : ℕ) → Fair (arnrRule (sceneOf q)) (sceneOf q) (pictureOf (q .bytes) (frameAt (q .numbers) g))
+  fair-frame : (g : ℕ) → Fair (arnrRule (sceneOf q)) (sceneOf q) (otherOf (q .bytes) (frameAt (q .numbers) g))
   unfolding arnrRule
-  fair-frame g = record { byte = λ k x y. let b = displaced-byte g k x y in omega arith; most = λ e. le-refl _ }
+  fair-frame g = record { byte = λ k x y. let b = displaced-byte g k x y in omega arith; most = λ e. capped (frameAt (q .numbers) g .cap) (sceneOf q .strength) e .by-curve }
 
   fair : Each (Fair (arnrRule (sceneOf q)) (sceneOf q)) (windowOf q .others)
   unfolding windowOf
-  fair = others-each (q .bytes) (q .numbers) (q .centre) _ (frameCount (q .numbers)) fair-frame
+  fair = others-each (q .bytes) (q .numbers) (q .centre) _ (frameCount (q .numbers)) (λ g l. fair-frame g)
 
   pub window-few : length (windowOf q .others) ≤ 1023
   unfolding windowOf
@@ -76,7 +76,7 @@ module _ (q : Request) (w h : ℕ) (legal : Legal q w h) (byte : (i : ℕ) → g
         }
 
     module _ (k x y : ℕ) (hk : k < 3) (hx : x < sideOf k w) (hy : y < sideOf k h) where
-      total-is : 16 + sumOver (λ f. curveShare (tabulate 256 (weightRead (q .strength))) (packedScene w h out) f k x y) (othersOf (q .bytes) (q .numbers) (q .centre) (frameCount (q .numbers)))
+      total-is : 16 + sumOver (λ f. otherShare (tabulate 256 (weightRead (q .strength))) (packedScene w h out) f k x y) (othersOf (q .bytes) (q .numbers) (q .centre) (frameCount (q .numbers)))
           ≡ totalAt (arnrRule (sceneOf q)) (windowOf q) k x y
       unfolding totalAt totalWeight windowOf packedScene sceneOf
       total-is =
@@ -84,16 +84,16 @@ module _ (q : Request) (w h : ℕ) (legal : Legal q w h) (byte : (i : ℕ) → g
           (sum-over-same _ _ (othersOf (q .bytes) (q .numbers) (q .centre) (frameCount (q .numbers)))
           (λ f. share-joined (packedScene w h out) (sceneOf q) agree f k x y hk hx hy (tabulate 256 (weightRead (q .strength))) (curve-at (q .strength))))
 
-      sum-is : 16 * getD out (placeOf w h k x y) 0 + sumOver (λ f. curveTerm (tabulate 256 (weightRead (q .strength))) (packedScene w h out) f k x y) (othersOf (q .bytes) (q .numbers) (q .centre) (frameCount (q .numbers)))
+      sum-is : 16 * getD out (placeOf w h k x y) 0 + sumOver (λ f. otherTerm (tabulate 256 (weightRead (q .strength))) (packedScene w h out) f k x y) (othersOf (q .bytes) (q .numbers) (q .centre) (frameCount (q .numbers)))
           ≡ sumAt (arnrRule (sceneOf q)) (windowOf q) k x y
       unfolding sumAt weightedSum windowOf packedScene sceneOf
       sum-is =
-          ap (λ (t : ℕ). 16 * t + sumOver (λ f. curveTerm (tabulate 256 (weightRead (q .strength))) (packedScene w h out) f k x y) (othersOf (q .bytes) (q .numbers) (q .centre) (frameCount (q .numbers)))) (shows .at k x y hk hx hy)
+          ap (λ (t : ℕ). 16 * t + sumOver (λ f. otherTerm (tabulate 256 (weightRead (q .strength))) (packedScene w h out) f k x y) (othersOf (q .bytes) (q .numbers) (q .centre) (frameCount (q .numbers)))) (shows .at k x y hk hx hy)
           ∙ ap (λ (t : ℕ). 16 * centreAt (sceneOf q) k x y + t)
           (sum-over-same _ _ (othersOf (q .bytes) (q .numbers) (q .centre) (frameCount (q .numbers)))
           (λ f. term-joined (packedScene w h out) (sceneOf q) agree f k x y hk hx hy (tabulate 256 (weightRead (q .strength))) (curve-at (q .strength))))
 
-    pub count-is : sumOver (acceptedIn (curveRule (tabulate 256 (weightRead (q .strength))) (packedScene w h out)) (packedScene w h out)) (othersOf (q .bytes) (q .numbers) (q .centre) (frameCount (q .numbers)))
+    pub count-is : sumOver (otherBlocks (tabulate 256 (weightRead (q .strength))) (packedScene w h out)) (othersOf (q .bytes) (q .numbers) (q .centre) (frameCount (q .numbers)))
         ≡ acceptedBlocks (arnrRule (sceneOf q)) (windowOf q)
     unfolding acceptedBlocks windowOf
     count-is = sum-over-same _ _ _ (λ f. count-joined (packedScene w h out) (sceneOf q) agree f (tabulate 256 (weightRead (q .strength))))
@@ -101,7 +101,7 @@ module _ (q : Request) (w h : ℕ) (legal : Legal q w h) (byte : (i : ℕ) → g
     -- the working slices: seeded, then raised
     module _ (old seeded raised : List ℕ) where
       pub sums-show : Front (packedSize w h) (λ k. 16 * getD out k 0) old seeded
-          → Spread w h (λ k x y. sumOver (λ f. curveTerm (tabulate 256 (weightRead (q .strength))) (packedScene w h out) f k x y) (othersOf (q .bytes) (q .numbers) (q .centre) (frameCount (q .numbers)))) seeded raised
+          → Spread w h (λ k x y. sumOver (λ f. otherTerm (tabulate 256 (weightRead (q .strength))) (packedScene w h out) f k x y) (othersOf (q .bytes) (q .numbers) (q .centre) (frameCount (q .numbers)))) seeded raised
           → Shows w h (sumAt (arnrRule (sceneOf q)) (windowOf q)) raised
       sums-show g s =
           record {
@@ -111,7 +111,7 @@ module _ (q : Request) (w h : ℕ) (legal : Legal q w h) (byte : (i : ℕ) → g
           }
 
       pub weights-show : Front (packedSize w h) (λ k. 16) old seeded
-          → Spread w h (λ k x y. sumOver (λ f. curveShare (tabulate 256 (weightRead (q .strength))) (packedScene w h out) f k x y) (othersOf (q .bytes) (q .numbers) (q .centre) (frameCount (q .numbers)))) seeded raised
+          → Spread w h (λ k x y. sumOver (λ f. otherShare (tabulate 256 (weightRead (q .strength))) (packedScene w h out) f k x y) (othersOf (q .bytes) (q .numbers) (q .centre) (frameCount (q .numbers)))) seeded raised
           → Shows w h (totalAt (arnrRule (sceneOf q)) (windowOf q)) raised
       weights-show g s =
           record {

@@ -1,6 +1,6 @@
--- Claims of document 01 on the grid, the block search, chroma halves, acceptance and shares, each a law; and how large sums and
--- totals can be. Assumes nothing.
-use mathlib.Core.Path.{_≡_, refl, sym, subst⁻¹}
+-- Claims of document 01 on the grid, the block search, chroma halves, acceptance and shares, each a law; how large sums and
+-- totals can be; and the claims of request 7 on caps. Assumes nothing.
+use mathlib.Core.Path.{_≡_, refl, sym, ap, _∙_, fun-ext, subst⁻¹}
 use mathlib.Core.Bool.{true, false}
 use mathlib.Core.List.{List, [], _∷_, _++_}
 use mathlib.Core.Logic.{⊎-elim}
@@ -12,27 +12,40 @@ use lib.IntN.{ℤ}
 use lib.ListN.{length, getD}
 use Rattle.laws.specs.Signed.{above, below}
 use Rattle.laws.proofs.Signed.{quot}
-use Rattle.laws.specs.Outcome.{accepted}
+use Rattle.laws.specs.Sums.{sumBelow, sumOver}
+use Rattle.laws.specs.Outcome.{accepted, firstOf}
 use Rattle.laws.proofs.Each.{Each}
+use Rattle.prediction.specs.Plane.{sampleAt}
 use Rattle.prediction.specs.Samples.{distance}
-use Rattle.weights.specs.Weights.{weightOf}
-use Rattle.weights.proofs.Weights.{read-some}
+use Rattle.weights.specs.Weights.{weightOf, weightRead, cappedWeight}
+use Rattle.weights.proofs.Weights.{read-some, capped}
+use Rattle.window.specs.declared.Frame.{Frame}
 use Rattle.window.specs.declared.Size.{Size}
 use Rattle.window.specs.declared.Checked.the-variants.{Legal}
 use Rattle.window.specs.Layout.{sideOf}
+use Rattle.window.specs.Frames.{frameCount, frameAt, planeOf}
 use Rattle.window.specs.Refusals.{checks}
+use Rattle.window.proofs.Caps as window
+use Rattle.window.proofs.Caps.{plainLines}
+use Rattle.denoiser.specs.declared.BuildAnswer.{BuildAnswer}
 use Rattle.denoiser.specs.declared.Block.{Block}
 use Rattle.denoiser.specs.declared.Displacement.{Displacement}
 use Rattle.denoiser.specs.Grid.{gridBlock, gridSide, blockIn, unitOf}
 use Rattle.denoiser.specs.Search.{measuredBy, blockSearch, displacementIn}
 use Rattle.denoiser.specs.Internal.{stepBest, Reach, Short}
-use Rattle.denoiser.specs.Window.{Picture, Scene, gate, centreAt, shareOf, totalAt, sumAt, sadAccepted, blockAccepted, displacedAt, arnrRule}
-use Rattle.denoiser.specs.Build.{BuildInput, givenOf, sceneOf, windowOf}
+use Rattle.denoiser.specs.Window.{Picture, Other, Scene, Rule, gate, centreAt, shareOf, totalAt, sumAt, acceptedIn, acceptedBlocks}
+use Rattle.denoiser.specs.Window.{displacementOf, sadAccepted, blockAccepted, displacedAt, arnrRule, plainRule}
+use Rattle.denoiser.specs.Pictures.{pictureOf, otherOf, othersOf}
+use Rattle.denoiser.specs.Demand.{Held}
+use Rattle.denoiser.specs.Build.{Request, BuildInput, givenOf, centreFrame, sceneOf, windowOf, builtOf, outcomeOf, BuildBy}
 use Rattle.denoiser.proofs.Answers.{legal}
 use Rattle.denoiser.proofs.Blends.{window-fair, window-byte, window-few}
 use Rattle.denoiser.proofs.Cover.{grid-lies, within-grid}
 use Rattle.denoiser.proofs.Demands.{total-most, sum-most}
+use Rattle.denoiser.proofs.Gates.{gate-most}
+use Rattle.denoiser.proofs.Others.{others-each, others-same}
 use Rattle.denoiser.proofs.Planes.{block-fits}
+use Rattle.denoiser.proofs.Rules.{Alike, build-alike}
 use Rattle.denoiser.proofs.Searches.{measured-short, measured-count, search-least, search-one}
 
 -- (x, y) is in the block
@@ -120,16 +133,116 @@ accepted-below b sad h = lt-ltb sad (13 * (b .columns * b .rows)) h
 pub excluded-from : (b : Block) (sad : ℕ) → 13 * (b .columns * b .rows) ≤ sad → sadAccepted b sad ≡ false
 excluded-from b sad h = le-ltb sad (13 * (b .columns * b .rows)) h
 
--- the Rust's share, with the strength's curve: where the frame's block is accepted, w of the displaced sample's difference; else 0
-pub record CurveShare (s : Scene) (f : Picture) (k x y : ℕ) : Type 0 where
-  pub taken : blockAccepted s f (y / unitOf k) (x / unitOf k) ≡ true
-      → shareOf (arnrRule s) s f k x y ≡ weightOf (min (s .strength) 6) (distance (displacedAt s f k x y) (centreAt s k x y))
-  pub left : blockAccepted s f (y / unitOf k) (x / unitOf k) ≡ false → shareOf (arnrRule s) s f k x y ≡ 0
+-- the builder's share, with the strength's curve: where the frame's block is accepted, the lesser of its cap and w of the displaced sample's difference; else 0
+pub record CurveShare (s : Scene) (f : Other) (k x y : ℕ) : Type 0 where
+  pub taken : blockAccepted s (f .picture) (y / unitOf k) (x / unitOf k) ≡ true
+      → shareOf (arnrRule s) s f k x y ≡ min (f .cap) (weightOf (min (s .strength) 6) (distance (displacedAt s (f .picture) k x y) (centreAt s k x y)))
+  pub left : blockAccepted s (f .picture) (y / unitOf k) (x / unitOf k) ≡ false → shareOf (arnrRule s) s f k x y ≡ 0
 
-pub curve-share : (s : Scene) (f : Picture) (k x y : ℕ) → 0 < s .strength → CurveShare s f k x y
-unfolding shareOf arnrRule gate
+pub curve-share : (s : Scene) (f : Other) (k x y : ℕ) → 0 < s .strength → CurveShare s f k x y
+unfolding shareOf arnrRule gate cappedWeight
 curve-share s f k x y h =
     record {
-      taken = λ e. simp e (read-some (s .strength) (distance (displacedAt s f k x y) (centreAt s k x y)) h);
+      taken = λ e. simp e (ap (min (f .cap)) (read-some (s .strength) (distance (displacedAt s (f .picture) k x y) (centreAt s k x y)) h));
       left = λ e. simp e;
     }
+
+-- a share is at most the frame's cap, and at most the curve's weight
+pub cap-least : (s : Scene) (f : Other) (k x y : ℕ)
+    → (shareOf (arnrRule s) s f k x y ≤ f .cap)
+    × (shareOf (arnrRule s) s f k x y ≤ weightRead (s .strength) (distance (displacedAt s (f .picture) k x y) (centreAt s k x y)))
+unfolding shareOf arnrRule
+cap-least s f k x y =
+    let c = capped (f .cap) (s .strength) (distance (displacedAt s (f .picture) k x y) (centreAt s k x y)) in
+    (gate-most _ _ _ (c .by-cap), gate-most _ _ _ (c .by-curve))
+
+-- with cap 0 a frame has no share at any sample
+pub cap-zero : (s : Scene) (f : Other) (k x y : ℕ) → f .cap ≡ 0 → shareOf (arnrRule s) s f k x y ≡ 0
+cap-zero s f k x y e = omega (arith, cap-least s f k x y .0)
+
+-- a frame without its cap, and two requests that differ in caps alone
+abbrev uncapped : Frame → Frame
+uncapped f =
+    record { width = f .width; height = f .height; y = f .y; u = f .u; v = f .v; «luma_stride» = f .«luma_stride»; «chroma_stride» = f .«chroma_stride»; cap = 0 }
+
+pub record CapsApart (p q : Request) : Type 0 where
+  pub bytes : p .bytes ≡ q .bytes
+  pub centre : p .centre ≡ q .centre
+  pub strength : p .strength ≡ q .strength
+  pub count : frameCount (p .numbers) ≡ frameCount (q .numbers)
+  pub frames : (g : ℕ) → uncapped (frameAt (p .numbers) g) ≡ uncapped (frameAt (q .numbers) g)
+
+-- they have the same accepted count, and the same displacements
+pub record SameBlocks (p q : Request) : Type 0 where
+  pub count : acceptedBlocks (arnrRule (sceneOf p)) (windowOf p) ≡ acceptedBlocks (arnrRule (sceneOf q)) (windowOf q)
+  pub displacement : (g i j : ℕ) → displacementOf (sceneOf p) (pictureOf (p .bytes) (frameAt (p .numbers) g)) i j
+      ≡ displacementOf (sceneOf q) (pictureOf (q .bytes) (frameAt (q .numbers) g)) i j
+
+-- no picture looks at a cap
+picture-uncapped : (bytes : List ℕ) (f : Frame) → pictureOf bytes f ≡ pictureOf bytes (uncapped f)
+unfolding pictureOf
+picture-uncapped bytes f = fun-ext plane
+  where
+    plane : (k : ℕ) → sampleAt (planeOf bytes f k) ≡ sampleAt (planeOf bytes (uncapped f) k)
+    plane zero = refl
+    plane (suc zero) = refl
+    plane (suc (suc k)) = refl
+
+module _ (p q : Request) (a : CapsApart p q) where
+  picture-same : (g : ℕ) → pictureOf (p .bytes) (frameAt (p .numbers) g) ≡ pictureOf (q .bytes) (frameAt (q .numbers) g)
+  picture-same g =
+      picture-uncapped (p .bytes) (frameAt (p .numbers) g) ∙ ap (pictureOf (p .bytes)) (a .frames g)
+      ∙ sym (picture-uncapped (p .bytes) (frameAt (q .numbers) g)) ∙ ap (λ (l : List ℕ). pictureOf l (frameAt (q .numbers) g)) (a .bytes)
+
+  scene-same : sceneOf p ≡ sceneOf q
+  unfolding sceneOf
+  scene-same =
+      let centre-picture = ap (λ (c : ℕ). pictureOf (p .bytes) (frameAt (p .numbers) c)) (a .centre) ∙ picture-same (q .centre) in
+      let frame = ap (λ (c : ℕ). uncapped (frameAt (p .numbers) c)) (a .centre) ∙ a .frames (q .centre) in
+      ap (λ (f : Frame). record { width = f .width; height = f .height; strength = p .strength; centre = pictureOf (p .bytes) (frameAt (p .numbers) (p .centre)) }) frame
+      ∙ ap (λ (n : ℕ). record { width = centreFrame q .width; height = centreFrame q .height; strength = n; centre = pictureOf (p .bytes) (frameAt (p .numbers) (p .centre)) }) (a .strength)
+      ∙ ap (λ (c : Picture). record { width = centreFrame q .width; height = centreFrame q .height; strength = q .strength; centre = c }) centre-picture
+
+  blocks-of : (g : ℕ) → acceptedIn (arnrRule (sceneOf q)) (sceneOf q) (otherOf (p .bytes) (frameAt (p .numbers) g))
+      ≡ acceptedIn (arnrRule (sceneOf q)) (sceneOf q) (otherOf (q .bytes) (frameAt (q .numbers) g))
+  unfolding acceptedIn arnrRule
+  blocks-of g =
+      ap (λ (f : Picture). sumBelow (λ i. sumBelow (λ j. gate (blockAccepted (sceneOf q) f i j) 1) (gridSide (sceneOf q .width))) (gridSide (sceneOf q .height))) (picture-same g)
+
+  pub cap-count : SameBlocks p q
+  unfolding acceptedBlocks windowOf
+  cap-count =
+      record {
+        count =
+            ap (λ (s : Scene). sumOver (acceptedIn (arnrRule s) s) (othersOf (p .bytes) (p .numbers) (p .centre) (frameCount (p .numbers)))) scene-same
+            ∙ ap (λ (c : ℕ). sumOver (acceptedIn (arnrRule (sceneOf q)) (sceneOf q)) (othersOf (p .bytes) (p .numbers) c (frameCount (p .numbers)))) (a .centre)
+            ∙ ap (λ (n : ℕ). sumOver (acceptedIn (arnrRule (sceneOf q)) (sceneOf q)) (othersOf (p .bytes) (p .numbers) (q .centre) n)) (a .count)
+            ∙ others-same (p .bytes) (p .numbers) (q .bytes) (q .numbers) (q .centre) (frameCount (q .numbers)) _ _ blocks-of;
+        displacement = λ g i j.
+            ap (λ (s : Scene). displacementOf s (pictureOf (p .bytes) (frameAt (p .numbers) g)) i j) scene-same
+            ∙ ap (λ (f : Picture). displacementOf (sceneOf q) f i j) (picture-same g);
+      }
+
+-- where every cap is 16, what the builder promises is document 01's: the answer, the three slices and demand 3 are those without caps
+pub every-cap-16 : (b : BuildInput) (r : BuildAnswer) (held : Held)
+    → ((g : ℕ) → g < frameCount (b .request .numbers) → frameAt (b .request .numbers) g .cap ≡ 16)
+    → BuildBy arnrRule b r held → BuildBy plainRule b r held
+unfolding windowOf arnrRule plainRule
+every-cap-16 b r held caps = build-alike arnrRule plainRule b alike r held
+  where
+    alike : Each (Alike (arnrRule (sceneOf (b .request))) (plainRule (sceneOf (b .request)))) (windowOf (b .request) .others)
+    alike =
+        others-each (b .request .bytes) (b .request .numbers) (b .request .centre) _ (frameCount (b .request .numbers))
+        (λ g l.
+        record {
+          accepts = λ i j. refl;
+          sample = λ k x y. refl;
+          weight = λ e. capped (frameAt (b .request .numbers) g .cap) (sceneOf (b .request) .strength) e .whole (omega (arith, caps g l));
+        })
+
+-- where every cap is at most 16, the outcome is that of the seven lines of document 01
+pub no-29 : (rule : Scene → Rule Other) (b : BuildInput)
+    → ((g : ℕ) → g < frameCount (b .request .numbers) → frameAt (b .request .numbers) g .cap ≤ 16)
+    → outcomeOf rule b ≡ firstOf (plainLines (givenOf b)) (builtOf rule (b .request))
+unfolding outcomeOf
+no-29 rule b caps = window.no-29 (givenOf b) caps (builtOf rule (b .request))

@@ -15,15 +15,15 @@ use Rattle.laws.specs.Tabulate.{tabulate}
 use Rattle.laws.proofs.Tabulate.{length-tabulate, getD-tabulate}
 use Rattle.prediction.specs.Samples.{distance}
 use Rattle.prediction.specs.Plane.{Samples}
-use Rattle.weights.specs.Weights.{scale, weightOf, weightRead}
+use Rattle.weights.specs.Weights.{scale, weightOf, weightRead, cappedWeight}
 use Rattle.weights.proofs.Weights.{zero-weight, read-none, read-some, read-most}
 use Rattle.window.specs.Layout.{sideOf}
 use Rattle.denoiser.specs.declared.Block.{Block}
 use Rattle.denoiser.specs.declared.Displacement.{Displacement}
 use Rattle.denoiser.specs.Grid.{gridBlock, gridSide, unitOf}
 use Rattle.denoiser.specs.Search.{sadOf, displacedBy, blockSearch, displacementIn}
-use Rattle.denoiser.specs.Window.{Picture, Scene, Rule, gate, centreAt, shareOf, acceptedIn, costOf, displacementOf, sadAccepted, blockAccepted, displacedAt, arnrRule}
-use Rattle.denoiser.specs.Internal.{curveRule, curveShare, curveTerm}
+use Rattle.denoiser.specs.Window.{Picture, Other, Scene, Rule, gate, centreAt, shareOf, acceptedIn, costOf, displacementOf, sadAccepted, blockAccepted, displacedAt, arnrRule}
+use Rattle.denoiser.specs.Internal.{curveRule, curveShare, curveTerm, cappedCurve, otherShare, otherTerm, otherBlocks}
 use Rattle.denoiser.proofs.Cover.{grid-lies, within-grid}
 
 -- the SAD looks at the rectangle only
@@ -74,7 +74,7 @@ module _ (a b : Scene) (s : Agree a b) (f : Picture) where
         ap (λ (d : Displacement). displacedBy (displacementIn k d) (f k) (pos x) (pos y))
         (displacement-same (y / unitOf k) (x / unitOf k) (in-grid k (a .height) y hy) (in-grid k (a .width) x hx))
 
-    by-weight : (u v : ℕ → ℕ) → ((e : ℕ) → u e ≡ v e)
+    pub by-weight : (u v : ℕ → ℕ) → ((e : ℕ) → u e ≡ v e)
         → gate (blockAccepted a f (y / unitOf k) (x / unitOf k)) (u (distance (displacedAt a f k x y) (centreAt a k x y)))
         ≡ gate (blockAccepted b f (y / unitOf k) (x / unitOf k)) (v (distance (displacedAt b f k x y) (centreAt b k x y)))
     by-weight u v e =
@@ -84,25 +84,10 @@ module _ (a b : Scene) (s : Agree a b) (f : Picture) where
         ∙ ap (λ (t : ℕ). v (distance t (centreAt a k x y))) displaced-same
         ∙ ap (λ (t : ℕ). v (distance (displacedAt b f k x y) t)) (s .centre k x y hk hx hy))
 
-    -- a share depends on the frame, the centre and the strength only
-    pub share-alone : a .strength ≡ b .strength → shareOf (arnrRule a) a f k x y ≡ shareOf (arnrRule b) b f k x y
-    unfolding shareOf arnrRule
-    share-alone e = by-weight (weightRead (a .strength)) (weightRead (b .strength)) (λ d. ap (λ (t : ℕ). weightRead t d) e)
-
-    pub share-joined : (curve : List ℕ) → ((e : ℕ) → getD curve e 0 ≡ weightRead (b .strength) e) → curveShare curve a f k x y ≡ shareOf (arnrRule b) b f k x y
-    unfolding curveShare shareOf curveRule arnrRule
-    share-joined curve e = by-weight (λ d. getD curve d 0) (weightRead (b .strength)) e
-
-    pub term-joined : (curve : List ℕ) → ((e : ℕ) → getD curve e 0 ≡ weightRead (b .strength) e)
-        → curveTerm curve a f k x y ≡ shareOf (arnrRule b) b f k x y * arnrRule b .sample f k x y
-    unfolding curveTerm arnrRule
-    term-joined curve e =
-        ap (λ (t : ℕ). t * displacedAt a f k x y) (share-joined curve e)
-        ∙ ap (λ (t : ℕ). shareOf (arnrRule b) b f k x y * t) displaced-same
-
-  pub count-joined : (curve : List ℕ) → acceptedIn (curveRule curve a) a f ≡ acceptedIn (arnrRule b) b f
-  unfolding acceptedIn curveRule arnrRule
-  count-joined curve =
+  -- as many blocks are accepted
+  pub blocks-same : sumBelow (λ i. sumBelow (λ j. gate (blockAccepted a f i j) 1) (gridSide (a .width))) (gridSide (a .height))
+      ≡ sumBelow (λ i. sumBelow (λ j. gate (blockAccepted b f i j) 1) (gridSide (b .width))) (gridSide (b .height))
+  blocks-same =
       sum-same _ _ (gridSide (a .height)) (λ i hi. sum-same _ _ (gridSide (a .width)) (λ j hj.
       ap (λ (t : Bool). gate t 1) (accepted-same i j (omega arith) (omega arith))))
       ∙ ap (λ (n : ℕ). sumBelow (λ i. sumBelow (λ j. gate (blockAccepted b f i j) 1) (gridSide n)) (gridSide (a .height))) (s .width)
@@ -128,3 +113,42 @@ curve-at strength e = by (decLt e 256)
 
 pub curve-light : (strength e : ℕ) → getD (tabulate 256 (weightRead strength)) e 0 ≤ 16
 curve-light strength e = rw (curve-at strength e) (read-most strength e)
+
+-- cut at a cap, it is the capped weight
+pub capped-at : (curve : List ℕ) (strength : ℕ) → ((e : ℕ) → getD curve e 0 ≡ weightRead strength e) → (cap e : ℕ)
+    → getD (cappedCurve curve cap) e 0 ≡ cappedWeight cap strength e
+unfolding cappedCurve cappedWeight
+capped-at curve strength is cap e = by (decLt e 256)
+  where
+    by : Dec (e < 256) → getD (tabulate 256 (λ d. min cap (getD curve d 0))) e 0 ≡ min cap (weightRead strength e)
+    by (yes l) = getD-tabulate 256 (λ d. min cap (getD curve d 0)) e 0 l ∙ ap (min cap) (is e)
+    by (no g) =
+        let n = length-tabulate 256 (λ d. min cap (getD curve d 0)) in
+        let z = far strength e (omega arith) in
+        List·getD-eq-default (tabulate 256 (λ d. min cap (getD curve d 0))) 0 (omega arith) ∙ omega arith
+
+-- another frame, with its cap
+module _ (a b : Scene) (s : Agree a b) (f : Other) where
+  module _ (k x y : ℕ) (hk : k < 3) (hx : x < sideOf k (a .width)) (hy : y < sideOf k (a .height)) where
+    -- a share depends on the frame, the centre and the strength only
+    pub share-alone : a .strength ≡ b .strength → shareOf (arnrRule a) a f k x y ≡ shareOf (arnrRule b) b f k x y
+    unfolding shareOf arnrRule
+    share-alone e =
+        by-weight a b s (f .picture) k x y hk hx hy (cappedWeight (f .cap) (a .strength)) (cappedWeight (f .cap) (b .strength))
+        (λ d. ap (λ (t : ℕ). cappedWeight (f .cap) t d) e)
+
+    pub share-joined : (curve : List ℕ) → ((e : ℕ) → getD curve e 0 ≡ weightRead (b .strength) e) → otherShare curve a f k x y ≡ shareOf (arnrRule b) b f k x y
+    unfolding otherShare curveShare shareOf curveRule arnrRule
+    share-joined curve e =
+        by-weight a b s (f .picture) k x y hk hx hy (λ d. getD (cappedCurve curve (f .cap)) d 0) (cappedWeight (f .cap) (b .strength)) (capped-at curve (b .strength) e (f .cap))
+
+    pub term-joined : (curve : List ℕ) → ((e : ℕ) → getD curve e 0 ≡ weightRead (b .strength) e)
+        → otherTerm curve a f k x y ≡ shareOf (arnrRule b) b f k x y * arnrRule b .sample f k x y
+    unfolding otherTerm otherShare curveTerm arnrRule
+    term-joined curve e =
+        ap (λ (t : ℕ). t * displacedAt a (f .picture) k x y) (share-joined curve e)
+        ∙ ap (λ (t : ℕ). shareOf (arnrRule b) b f k x y * t) (displaced-same a b s (f .picture) k x y hk hx hy)
+
+  pub count-joined : (curve : List ℕ) → otherBlocks curve a f ≡ acceptedIn (arnrRule b) b f
+  unfolding otherBlocks acceptedIn curveRule arnrRule
+  count-joined curve = blocks-same a b s (f .picture)

@@ -14,5 +14,6 @@ pub mod Demands
 pub mod Blends
 pub mod Makes
 pub mod Answers
+pub mod Rules
 pub mod Ceilings
 pub mod Claims

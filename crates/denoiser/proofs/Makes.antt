@@ -11,7 +11,7 @@ use lib.Seq.{drop-at, take-at}
 use borrow.Author.Tests.{eq-eqb, ne-eqb}
 use Rattle.window.specs.Layout.{packedSize}
 use Rattle.window.specs.Frames.{frameAt, frameCount}
-use Rattle.denoiser.specs.Window.{Picture, centreAt, sumAt, totalAt, denoisedAt, acceptedBlocks, arnrRule}
+use Rattle.denoiser.specs.Window.{centreAt, sumAt, totalAt, denoisedAt, acceptedBlocks, arnrRule}
 use Rattle.denoiser.specs.Pictures.{pictureOf}
 use Rattle.denoiser.specs.Demand.{Held}
 use Rattle.denoiser.specs.Build.{Request, sceneOf, windowOf, cropped, packed, filled, builtOf, samplesOf}

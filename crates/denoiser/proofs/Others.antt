@@ -11,11 +11,11 @@ use lib.Dec.{eqb}
 use lib.ListN.{length, length-append, length-map}
 use borrow.Author.Tests.{eq-eqb, ne-eqb}
 use Rattle.laws.specs.Sums.{sumOver}
-use Rattle.laws.proofs.Sums.{sum-over-append, sum-over-most}
-use Rattle.laws.proofs.Each.{Each}
+use Rattle.laws.proofs.Sums.{sum-over-same, sum-over-append, sum-over-most}
+use Rattle.laws.proofs.Each.{Each, each-append}
 use Rattle.window.specs.Frames.{frameAt}
-use Rattle.denoiser.specs.Window.{Picture}
-use Rattle.denoiser.specs.Pictures.{pictureOf, allBut, othersOf}
+use Rattle.denoiser.specs.Window.{Other}
+use Rattle.denoiser.specs.Pictures.{otherOf, allBut, othersOf}
 
 sum-map : {A B : Type 0} (f : B → ℕ) (p : A → B) (xs : List A) → sumOver f (map p xs) ≡ sumOver (λ x. f (p x)) xs
 unfolding sumOver
@@ -57,40 +57,58 @@ but-most c (suc n) = by (eqb n c) (but-most c n)
     by true l = omega arith
     by false l = omega (arith, length-append (allBut c n) (n ∷ []))
 
+-- what holds below n holds of each
+each-but : (P : ℕ → Type 0) (c n : ℕ) → ((g : ℕ) → g < n → P g) → Each P (allBut c n)
+unfolding allBut
+each-but P c zero h = tt
+each-but P c (suc n) h = by (eqb n c) (each-but P c n (λ g l. h g (omega arith)))
+  where
+    by : (t : Bool) → Each P (allBut c n) → Each P (cond t (allBut c n) (allBut c n ++ (n ∷ [])))
+    by true e = e
+    by false e = each-append P (allBut c n) (n ∷ []) e (h n (omega arith), tt)
+
 module _ (bytes numbers : List ℕ) (c : ℕ) where
-  pub others-none : (f : Picture → ℕ) → sumOver f (othersOf bytes numbers c 0) ≡ 0
+  pub others-none : (f : Other → ℕ) → sumOver f (othersOf bytes numbers c 0) ≡ 0
   unfolding othersOf allBut sumOver
   others-none f = refl
 
-  pub others-more : (f : Picture → ℕ) (n : ℕ) → (n ≡ c → ⊥)
-      → sumOver f (othersOf bytes numbers c (n + 1)) ≡ sumOver f (othersOf bytes numbers c n) + f (pictureOf bytes (frameAt numbers n))
+  pub others-more : (f : Other → ℕ) (n : ℕ) → (n ≡ c → ⊥)
+      → sumOver f (othersOf bytes numbers c (n + 1)) ≡ sumOver f (othersOf bytes numbers c n) + f (otherOf bytes (frameAt numbers n))
   unfolding othersOf
   others-more f n g =
-      sum-map f _ (allBut c (n + 1)) ∙ but-more _ c n g ∙ ap (λ (t : ℕ). t + f (pictureOf bytes (frameAt numbers n))) (sym (sum-map f _ (allBut c n)))
+      sum-map f _ (allBut c (n + 1)) ∙ but-more _ c n g ∙ ap (λ (t : ℕ). t + f (otherOf bytes (frameAt numbers n))) (sym (sum-map f _ (allBut c n)))
 
-  pub others-centre : (f : Picture → ℕ) (n : ℕ) → n ≡ c → sumOver f (othersOf bytes numbers c (n + 1)) ≡ sumOver f (othersOf bytes numbers c n)
+  pub others-centre : (f : Other → ℕ) (n : ℕ) → n ≡ c → sumOver f (othersOf bytes numbers c (n + 1)) ≡ sumOver f (othersOf bytes numbers c n)
   unfolding othersOf
   others-centre f n e = sum-map f _ (allBut c (n + 1)) ∙ but-centre _ c n e ∙ sym (sum-map f _ (allBut c n))
 
   pub others-count : (n : ℕ) → c < n → length (othersOf bytes numbers c n) + 1 ≡ n
   unfolding othersOf
-  others-count n h = let e = length-map (allBut c n) (λ g. pictureOf bytes (frameAt numbers g)) in let a = but-count c n h in omega arith
+  others-count n h = let e = length-map (allBut c n) (λ g. otherOf bytes (frameAt numbers g)) in let a = but-count c n h in omega arith
 
-  -- what holds of every frame's picture holds of each
-  pub others-each : (P : Picture → Type 0) (n : ℕ) → ((g : ℕ) → P (pictureOf bytes (frameAt numbers g))) → Each P (othersOf bytes numbers c n)
+  -- what holds of every frame below n holds of each
+  pub others-each : (P : Other → Type 0) (n : ℕ) → ((g : ℕ) → g < n → P (otherOf bytes (frameAt numbers g))) → Each P (othersOf bytes numbers c n)
   unfolding othersOf
-  others-each P n h = all (allBut c n)
+  others-each P n h = each-of (allBut c n) (each-but (λ g. P (otherOf bytes (frameAt numbers g))) c n h)
     where
-      all : (gs : List ℕ) → Each P (map (λ g. pictureOf bytes (frameAt numbers g)) gs)
-      all [] = tt
-      all (g ∷ gs) = (h g, all gs)
+      each-of : (gs : List ℕ) → Each (λ g. P (otherOf bytes (frameAt numbers g))) gs → Each P (map (λ g. otherOf bytes (frameAt numbers g)) gs)
+      each-of [] e = tt
+      each-of (g ∷ gs) e = (e .0, each-of gs (e .1))
 
   -- a sum over them, where none adds more than m
-  pub others-most : (f : Picture → ℕ) (m n : ℕ) → ((g : ℕ) → f (pictureOf bytes (frameAt numbers g)) ≤ m) → sumOver f (othersOf bytes numbers c n) ≤ n * m
+  pub others-most : (f : Other → ℕ) (m n : ℕ) → ((g : ℕ) → f (otherOf bytes (frameAt numbers g)) ≤ m) → sumOver f (othersOf bytes numbers c n) ≤ n * m
   unfolding othersOf
   others-most f m n h =
-      rw (sum-map f (λ g. pictureOf bytes (frameAt numbers g)) (allBut c n))
-      (let a = sum-over-most (λ g. f (pictureOf bytes (frameAt numbers g))) (allBut c n) m h in
+      rw (sum-map f (λ g. otherOf bytes (frameAt numbers g)) (allBut c n))
+      (let a = sum-over-most (λ g. f (otherOf bytes (frameAt numbers g))) (allBut c n) m h in
       let b = mul-le-mul-right m (but-most c n) in
       let e = mul-comm m (length (allBut c n)) in
       omega arith)
+
+-- two lists of other frames, of which as much is added frame by frame
+pub others-same : (bytes numbers bytes′ numbers′ : List ℕ) (c n : ℕ) (f f′ : Other → ℕ)
+    → ((g : ℕ) → f (otherOf bytes (frameAt numbers g)) ≡ f′ (otherOf bytes′ (frameAt numbers′ g)))
+    → sumOver f (othersOf bytes numbers c n) ≡ sumOver f′ (othersOf bytes′ numbers′ c n)
+unfolding othersOf
+others-same bytes numbers bytes′ numbers′ c n f f′ e =
+    sum-map f _ (allBut c n) ∙ sum-over-same _ _ (allBut c n) e ∙ sym (sum-map f′ _ (allBut c n))

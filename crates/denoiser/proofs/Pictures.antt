@@ -2,19 +2,22 @@
 use mathlib.Core.Path.{_≡_, refl, sym, ap, _∙_}
 use mathlib.Core.Bool.{Bool, true, false}
 use mathlib.Core.List.{List}
-use Prim.Native.Nat.{ℕ, _+_, _*_, _/_, _≤_, _<_}
+use Prim.Native.Nat.{ℕ, _+_, _*_, _/_, _≤_, _<_, min}
 use native.Mathlib.Nat.{mul-le-mul}
 use native.Mathlib.Omega.{arith}
+use native.Mathlib.Decide.{decLt}
 use lib.IntN.{ℤ, pos}
-use lib.ListN.{getD}
+use lib.ListN.{getD, List·getD-eq-default}
+use Rattle.laws.specs.Tabulate.{tabulate}
+use Rattle.laws.proofs.Tabulate.{length-tabulate, getD-tabulate}
 use Rattle.prediction.specs.Plane.{sampleAt}
 use Rattle.window.specs.declared.Frame.{Frame}
 use Rattle.window.specs.Frames.{planeOf}
 use Rattle.denoiser.specs.Grid.{unitOf}
 use Rattle.denoiser.specs.Search.{displacedBy, displacementIn}
-use Rattle.denoiser.specs.Window.{Picture, Scene, gate, shareOf, displacementOf, blockAccepted, displacedAt}
+use Rattle.denoiser.specs.Window.{Picture, Other, Scene, gate, shareOf, displacementOf, blockAccepted, displacedAt}
 use Rattle.denoiser.specs.Pictures.{pictureOf}
-use Rattle.denoiser.specs.Internal.{Light, shareBy, termBy, curveRule, curveShare, curveTerm}
+use Rattle.denoiser.specs.Internal.{Light, shareBy, termBy, curveRule, curveShare, curveTerm, cappedCurve, otherShare, otherTerm}
 use Rattle.denoiser.proofs.Gates.{gate-most, gate-times}
 use Rattle.denoiser.proofs.Place.{share-most, term-most}
 use Rattle.denoiser.proofs.Planes.{sample-byte}
@@ -42,3 +45,24 @@ module _ (curve : List ℕ) (s : Scene) (f : Picture) (k x y : ℕ) where
 
   pub term-light : Light curve → ((a b : ℤ) → f k a b ≤ 255) → curveTerm curve s f k x y ≤ 4080
   term-light light byte = rw term-at (gate-most _ _ 4080 (term-most curve _ _ light x y (byte _ _)))
+
+-- a curve cut at a cap is as light as the curve
+pub capped-light : (curve : List ℕ) (cap : ℕ) → Light curve → Light (cappedCurve curve cap)
+unfolding cappedCurve
+capped-light curve cap light e = by (decLt e 256)
+  where
+    by : Dec (e < 256) → getD (tabulate 256 (λ d. min cap (getD curve d 0))) e 0 ≤ 16
+    by (yes l) = rw (getD-tabulate 256 (λ d. min cap (getD curve d 0)) e 0 l) (let m = light e in omega arith)
+    by (no g) =
+        let n = length-tabulate 256 (λ d. min cap (getD curve d 0)) in
+        rw (List·getD-eq-default (tabulate 256 (λ d. min cap (getD curve d 0))) 0 {n = e} (omega arith)) (omega arith)
+
+-- what another frame adds, by its cut curve
+module _ (curve : List ℕ) (s : Scene) (f : Other) (k x y : ℕ) (light : Light curve) where
+  pub other-share-light : otherShare curve s f k x y ≤ 16
+  unfolding otherShare
+  other-share-light = share-light (cappedCurve curve (f .cap)) s (f .picture) k x y (capped-light curve (f .cap) light)
+
+  pub other-term-light : ((a b : ℤ) → f .picture k a b ≤ 255) → otherTerm curve s f k x y ≤ 4080
+  unfolding otherTerm
+  other-term-light byte = term-light (cappedCurve curve (f .cap)) s (f .picture) k x y (capped-light curve (f .cap) light) byte

@@ -14,7 +14,7 @@ use Rattle.window.specs.Refusals.{Given, given, buildLines, refusalOutcome}
 use Rattle.denoiser.specs.declared.Built.{Built}
 use Rattle.denoiser.specs.declared.BuildAnswer.{BuildAnswer}
 use Rattle.denoiser.specs.declared.BuildAnswer.the-variants.{Done, Refused}
-use Rattle.denoiser.specs.Window.{Picture, Scene, Window, Rule, centreAt, totalAt, sumAt, denoisedAt, acceptedBlocks, arnrRule}
+use Rattle.denoiser.specs.Window.{Other, Scene, Window, Rule, centreAt, totalAt, sumAt, denoisedAt, acceptedBlocks, arnrRule}
 use Rattle.denoiser.specs.Pictures.{pictureOf, othersOf}
 use Rattle.denoiser.specs.Demand.{Held, Demand3}
 
@@ -38,7 +38,7 @@ abbrev pub givenOf : BuildInput → Given
 givenOf b =
     given (b .request .bytes) (b .request .numbers) (b .request .centre) (length (b .lent .output)) (length (b .lent .sums)) (length (b .lent .weights))
 
--- the window: the centre frame's size and picture with the strength, and the other frames' pictures
+-- the window: the centre frame's size and picture with the strength, and the other frames' pictures and caps
 abbrev pub centreFrame : Request → Frame
 centreFrame q = frameAt (q .numbers) (q .centre)
 
@@ -46,7 +46,7 @@ unfoldable pub sceneOf : Request → Scene
 sceneOf q =
     record { width = centreFrame q .width; height = centreFrame q .height; strength = q .strength; centre = pictureOf (q .bytes) (centreFrame q) }
 
-unfoldable pub windowOf : Request → Window Picture
+unfoldable pub windowOf : Request → Window Other
 windowOf q = record { scene = sceneOf q; others = othersOf (q .bytes) (q .numbers) (q .centre) (frameCount (q .numbers)) }
 
 -- the centre is only cropped: one frame, or strength 0
@@ -65,16 +65,16 @@ unfoldable pub filled : Scene → (ℕ → ℕ → ℕ → ℕ) → List ℕ →
 filled s f old = packed (s .width) (s .height) f ++ drop (packedSize (s .width) (s .height)) old
 
 -- the answer of an accepted call: width, height and accepted blocks, 0 where the centre is only cropped
-unfoldable pub builtOf : (Scene → Rule Picture) → Request → Built
+unfoldable pub builtOf : (Scene → Rule Other) → Request → Built
 builtOf rule q =
     record { width = sceneOf q .width; height = sceneOf q .height; accepted = cond (cropped q) 0 (acceptedBlocks (rule (sceneOf q)) (windowOf q)) }
 
 -- the samples of the output: the centre's where it is only cropped, else the denoised ones
-unfoldable pub samplesOf : (Scene → Rule Picture) → Request → ℕ → ℕ → ℕ → ℕ
+unfoldable pub samplesOf : (Scene → Rule Other) → Request → ℕ → ℕ → ℕ → ℕ
 samplesOf rule q = cond (cropped q) (centreAt (sceneOf q)) (denoisedAt (rule (sceneOf q)) (windowOf q))
 
--- the outcome: the first refusal of 1 to 7 that applies, or the answer
-unfoldable pub outcomeOf : (Scene → Rule Picture) → BuildInput → Outcome Built
+-- the outcome: the first refusal of 1, 2, 3, 4, 29, 5, 6, 7 that applies, or the answer
+unfoldable pub outcomeOf : (Scene → Rule Other) → BuildInput → Outcome Built
 outcomeOf rule b = firstOf (buildLines (givenOf b)) (builtOf rule (b .request))
 
 -- the number and the values of each refusal, and the answer
@@ -83,26 +83,26 @@ buildOutcome (Done a) = accepted a
 buildOutcome (Refused r) = refusalOutcome r
 
 -- the output after the call: unchanged on a refusal
-unfoldable pub outputAfter : (Scene → Rule Picture) → BuildInput → List ℕ
+unfoldable pub outputAfter : (Scene → Rule Other) → BuildInput → List ℕ
 outputAfter rule b =
     after (outcomeOf rule b) (b .lent .output) (filled (sceneOf (b .request)) (samplesOf rule (b .request)) (b .lent .output))
 
 -- a working slice after the call, which held `old` and gets the entries of f: unchanged on a refusal, and where the centre is only cropped
-unfoldable pub workingAfter : (Scene → Rule Picture) → BuildInput → (ℕ → ℕ → ℕ → ℕ) → List ℕ → List ℕ
+unfoldable pub workingAfter : (Scene → Rule Other) → BuildInput → (ℕ → ℕ → ℕ → ℕ) → List ℕ → List ℕ
 workingAfter rule b f old = after (outcomeOf rule b) old (cond (cropped (b .request)) old (filled (sceneOf (b .request)) f old))
 
 -- what a builder leaves in the three slices, under a rule, and all of demand 3 where it blends
-pub record LeavesBy (rule : Scene → Rule Picture) (b : BuildInput) (held : Held) : Type 0 where
+pub record LeavesBy (rule : Scene → Rule Other) (b : BuildInput) (held : Held) : Type 0 where
   pub output : held .output ≡ outputAfter rule b
   pub sums : held .sums ≡ workingAfter rule b (sumAt (rule (sceneOf (b .request))) (windowOf (b .request))) (b .lent .sums)
   pub weights : held .weights ≡ workingAfter rule b (totalAt (rule (sceneOf (b .request))) (windowOf (b .request))) (b .lent .weights)
   pub demand3 : (a : Built) → outcomeOf rule b ≡ accepted a → cropped (b .request) ≡ false → Demand3 (rule (sceneOf (b .request))) (windowOf (b .request)) held
 
 -- what a builder promises: the answer, and what it leaves
-pub record BuildBy (rule : Scene → Rule Picture) (b : BuildInput) (r : BuildAnswer) (held : Held) : Type 0 where
+pub record BuildBy (rule : Scene → Rule Other) (b : BuildInput) (r : BuildAnswer) (held : Held) : Type 0 where
   pub answer : buildOutcome r ≡ outcomeOf rule b
   pub slices : LeavesBy rule b held
 
--- the builder of the Rust
+-- the builder of the Rust, with caps; where every cap is 16 it is document 01's (`every-cap-16`)
 abbrev pub BuildIs : BuildInput → BuildAnswer → Held → Type 0
 BuildIs b r held = BuildBy arnrRule b r held

@@ -31,8 +31,9 @@ pub record SampleIs {F : Type 0} (rule : Rule F) (w : Window F) (held : Held) (k
   -- the denoised sample is (sum + total/2) / total
   pub sample : entryAt (w .scene) (held .output) k x y
       ≡ (entryAt (w .scene) (held .sums) k x y + entryAt (w .scene) (held .weights) k x y / 2) / entryAt (w .scene) (held .weights) k x y
-  -- another frame's share is the weight of its displaced sample's difference where its block is accepted, else 0; nothing but that
-  -- frame and the scene (size, strength and centre frame) enters it. This unfolds `shareOf`, by which total and sum are said
+  -- another frame's share is the rule's weight of its displaced sample's difference where its block is accepted, else 0; nothing but
+  -- that frame and the scene (size, strength and centre frame) enters it. The builder's weight is min(cap, w(e)), the lesser of the
+  -- frame's cap and the curve's weight (`arnrRule`). This unfolds `shareOf`, by which total and sum are said
   pub share : (f : F) → shareOf rule (w .scene) f k x y
       ≡ gate (rule .accepts f (y / unitOf k) (x / unitOf k)) (rule .weight f (distance (rule .sample f k x y) (centreAt (w .scene) k x y)))
   -- the denoised sample is no farther from the centre sample than the distance bound of n other frames at the strength

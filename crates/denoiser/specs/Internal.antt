@@ -2,12 +2,13 @@
 use mathlib.Core.Path.{_≡_}
 use mathlib.Core.Bool.{Bool, cond, _&&_}
 use mathlib.Core.List.{List}
-use Prim.Native.Nat.{ℕ, _+_, _*_, _^_, _≤_, _<_}
+use Prim.Native.Nat.{ℕ, _+_, _*_, _^_, _≤_, _<_, min}
 use lib.Dec.{leb, ltb}
 use lib.IntN.{ℤ, pos}
 use lib.ListN.{length, getD}
 use Rattle.laws.specs.Signed.{above, below}
 use Rattle.laws.specs.Sums.{sumBelow}
+use Rattle.laws.specs.Tabulate.{tabulate}
 use Rattle.laws.specs.Best.{bestOf}
 use Rattle.prediction.specs.Samples.{distance}
 use Rattle.prediction.specs.Plane.{Samples, Plane, sampleAt, bytesNeeded}
@@ -20,7 +21,7 @@ use Rattle.denoiser.specs.declared.Displacement.{Displacement}
 use Rattle.denoiser.specs.declared.PlaneNumbers.{PlaneNumbers}
 use Rattle.denoiser.specs.declared.Motion.{Motion}
 use Rattle.denoiser.specs.Search.{sadOf, displacedBy, neighbourOf}
-use Rattle.denoiser.specs.Window.{Picture, Scene, Rule, shareOf, sumAt, totalAt, denoisedAt, acceptedBlocks, blockAccepted, displacedAt, arnrRule}
+use Rattle.denoiser.specs.Window.{Picture, Other, Scene, Rule, shareOf, sumAt, totalAt, denoisedAt, acceptedIn, acceptedBlocks, blockAccepted, displacedAt, arnrRule}
 use Rattle.denoiser.specs.Demand.{Held}
 use Rattle.denoiser.specs.Build.{Request, sceneOf, windowOf, cropped, packed, filled, builtOf, samplesOf}
 
@@ -170,6 +171,20 @@ curveShare curve s f k x y = shareOf (curveRule curve s) s f k x y
 
 unfoldable pub curveTerm : List ℕ → Scene → Picture → ℕ → ℕ → ℕ → ℕ
 curveTerm curve s f k x y = curveShare curve s f k x y * displacedAt s f k x y
+
+-- a curve cut at a cap
+unfoldable pub cappedCurve : List ℕ → ℕ → List ℕ
+cappedCurve curve cap = tabulate 256 (λ e. min cap (getD curve e 0))
+
+-- of another frame, by the lent curve cut at its cap: its share, the share times the displaced sample, and its accepted blocks
+unfoldable pub otherShare : List ℕ → Scene → Other → ℕ → ℕ → ℕ → ℕ
+otherShare curve s f k x y = curveShare (cappedCurve curve (f .cap)) s (f .picture) k x y
+
+unfoldable pub otherTerm : List ℕ → Scene → Other → ℕ → ℕ → ℕ → ℕ
+otherTerm curve s f k x y = curveTerm (cappedCurve curve (f .cap)) s (f .picture) k x y
+
+unfoldable pub otherBlocks : List ℕ → Scene → Other → ℕ
+otherBlocks curve s f = acceptedIn (curveRule (cappedCurve curve (f .cap)) s) s (f .picture)
 
 -- n frames of one size, each within the bytes
 pub record Frames (bytes numbers : List ℕ) (n w h : ℕ) : Type 0 where

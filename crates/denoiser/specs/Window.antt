@@ -7,7 +7,7 @@ use lib.IntN.{pos}
 use Rattle.laws.specs.Sums.{sumBelow, sumOver}
 use Rattle.prediction.specs.Samples.{distance}
 use Rattle.prediction.specs.Plane.{Samples}
-use Rattle.weights.specs.Weights.{weightRead}
+use Rattle.weights.specs.Weights.{weightRead, cappedWeight}
 use Rattle.weights.specs.Blend.{totalWeight, weightedSum, denoised}
 use Rattle.denoiser.specs.declared.Block.{Block}
 use Rattle.denoiser.specs.declared.Displacement.{Displacement}
@@ -17,6 +17,11 @@ use Rattle.denoiser.specs.Search.{sadOf, displacedBy, blockSearch, displ
 -- a picture: the samples of each plane, edge samples repeated
 abbrev pub Picture : Type 0
 Picture = ℕ → Samples
+
+-- another frame of a window: its picture, and its cap
+pub record Other : Type 0 where
+  pub picture : Picture
+  pub cap : ℕ
 
 -- v where the test holds, else 0
 unfoldable pub gate : Bool → ℕ → ℕ
@@ -84,5 +89,12 @@ blockAccepted s f i j = sadAccepted (gridBlock (s .width) (s .height) i j) (cost
 unfoldable pub displacedAt : Scene → Picture → ℕ → ℕ → ℕ → ℕ
 displacedAt s f k x y = displacedBy (displacementIn k (displacementOf s f (y / unitOf k) (x / unitOf k))) (f k) (pos x) (pos y)
 
-unfoldable pub arnrRule : Scene → Rule Picture
-arnrRule s = record { accepts = blockAccepted s; sample = displacedAt s; weight = λ f e. weightRead (s .strength) e }
+-- a frame's weight is the lesser of its cap and the curve's weight; nothing else looks at the cap
+unfoldable pub arnrRule : Scene → Rule Other
+arnrRule s =
+    record { accepts = λ f. blockAccepted s (f .picture); sample = λ f. displacedAt s (f .picture); weight = λ f e. cappedWeight (f .cap) (s .strength) e }
+
+-- document 01's rule, which knows no caps: the one that is held against the Rust
+unfoldable pub plainRule : Scene → Rule Other
+plainRule s =
+    record { accepts = λ f. blockAccepted s (f .picture); sample = λ f. displacedAt s (f .picture); weight = λ f e. weightRead (s .strength) e }

@@ -92,6 +92,7 @@ pub fn records_of(numbers: &[u32]) -> [Frame; ARRAY_RECORDS]
         v: 0,
         luma_stride: 0,
         chroma_stride: 0,
+        cap: 0,
     };
     let n = held(window::frame_count(numbers));
     let mut frames = [none; ARRAY_RECORDS];

@@ -6,6 +6,7 @@ use native.Mathlib.Numerals.{add-one}
 use native.Mathlib.Omega.{arith}
 use lib.ListN.{length}
 use Rattle.laws.specs.Sums.{sumBelow, sumOver}
+use Rattle.laws.proofs.Each.{Each}
 
 -- a loop's start and turn
 pub sum-none : (f : ℕ → ℕ) → 0 ≡ sumBelow f 0
@@ -68,6 +69,12 @@ pub sum-over-same : {X : Type 0} (f g : X → ℕ) (xs : List X) → ((x : X) �
 unfolding sumOver
 sum-over-same f g [] h = refl
 sum-over-same f g (x ∷ xs) h = omega (arith, h x, sum-over-same f g xs h)
+
+-- the same, where it is known of the list's own entries
+pub sum-over-each : {X : Type 0} (f g : X → ℕ) (xs : List X) → Each (λ x. f x ≡ g x) xs → sumOver f xs ≡ sumOver g xs
+unfolding sumOver
+sum-over-each f g [] e = refl
+sum-over-each f g (x ∷ xs) e = omega (arith, e .0, sum-over-each f g xs (e .1))
 
 pub sum-over-append : {X : Type 0} (f : X → ℕ) (xs ys : List X) → sumOver f (xs ++ ys) ≡ sumOver f xs + sumOver f ys
 unfolding sumOver

@@ -89,13 +89,14 @@ allowedNumbers (refused k values) = record { refusal = k; macroblocks = 0; compa
 abbrev pub build : ℕ → ℕ → ℕ → ℕ → ℕ → ℕ → ℕ → Build
 build k w h a ow oh g = record { refusal = k; width = w; height = h; accepted = a; «other_width» = ow; «other_height» = oh; frame = g }
 
--- the values v of refusal k: 3 has a size, 4 a frame's size and then the centre's, 5 a frame; the others have none
+-- the values v of refusal k: 3 has a size, 4 a frame's size and then the centre's, 29 and 5 a frame; the others have none
 abbrev pub buildRefused : ℕ → List ℕ → Build
 buildRefused k v =
     cond (eqb k 3) (build k (getD v 0 0) (getD v 1 0) 0 0 0 0)
     (cond (eqb k 4) (build k (getD v 2 0) (getD v 3 0) 0 (getD v 0 0) (getD v 1 0) 0)
+    (cond (eqb k 29) (build k 0 0 0 0 0 (getD v 0 0))
     (cond (eqb k 5) (build k 0 0 0 0 0 (getD v 0 0))
-    (build k 0 0 0 0 0 0)))
+    (build k 0 0 0 0 0 0))))
 
 abbrev pub buildNumbers : Outcome Built → Build
 buildNumbers (accepted b) = build 0 (b .width) (b .height) (b .accepted) 0 0 0

@@ -282,6 +282,7 @@ fn refusal_numbers(refusal: Refusal) -> Build
         Refusal::TooManyFrames => numbers_of(2, 0, 0, 0, 0, 0, 0),
         Refusal::BadSize(s) => numbers_of(3, s.width, s.height, 0, 0, 0, 0),
         Refusal::OtherSize(s, c) => numbers_of(4, c.width, c.height, 0, s.width, s.height, 0),
+        Refusal::CapTooHigh(g) => numbers_of(29, 0, 0, 0, 0, 0, g),
         Refusal::PlaneUnfit(g) => numbers_of(5, 0, 0, 0, 0, 0, g),
         Refusal::ShortOutput => numbers_of(6, 0, 0, 0, 0, 0, 0),
         Refusal::ShortWorking => numbers_of(7, 0, 0, 0, 0, 0, 0),

@@ -27,7 +27,7 @@ pub(crate) fn stores(record: &[u8; 144]) -> bool {
     config.strength as usize == number(record, 1)
 }
 
-// Whether the record has document 01's number, 0 where the call is accepted, and its values.
+// Whether the record has the documents' number, 0 where the call is accepted, and its values.
 fn has(record: &[u8; 144], outcome: usize, a: u32, b: u32, c: u32, d: u32) -> bool {
     number(record, 1) == outcome
         && number(record, 13) == a as usize
@@ -49,6 +49,7 @@ fn has_refusal(record: &[u8; 144], refusal: Refusal) -> bool {
             centre.width,
             centre.height,
         ),
+        Refusal::CapTooHigh(index) => has(record, 29, index, 0, 0, 0),
         Refusal::PlaneUnfit(index) => has(record, 5, index, 0, 0, 0),
         Refusal::ShortOutput => has(record, 6, 0, 0, 0, 0),
         Refusal::ShortWorking => has(record, 7, 0, 0, 0, 0),
@@ -123,7 +124,7 @@ fn agrees_by(records: bool, pictures: &[u8], payload: &[u8], record: &[u8; 144])
     let mut output = old_bytes();
     let mut sums = old_words();
     let mut weights = old_words();
-    let given = least(number(record, 4), 7200);
+    let given = least(number(record, 4), 8300);
     let numbers = loaded(payload, small(record, 3), given);
     let o = least(number(record, 8), 40000);
     let s = least(number(record, 9), 40000);

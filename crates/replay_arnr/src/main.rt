@@ -1,13 +1,13 @@
-// Replays the stored answers of the Rust originals, and document 01's refusals, on the builder, over numbers and over frame
-// records, and on its configuration, and prints how many cases it compared and how many differ: the empty window first, then
-// one frame, then strength 0, then windows, refusals and configurations.
+// Replays the stored answers of the Rust originals, the documents' refusals, and windows with caps below 16, on the builder, over
+// numbers and over frame records, and on its configuration, and prints how many cases it compared and how many differ: the empty
+// window first, then one frame, then strength 0, then windows, caps, refusals and configurations.
 // The layout of `pictures` and `cases` is written in oracle/src/denoiser/mod.rs.
 mod builds;
 mod parts;
 mod tally;
 
 // Whether to go on after a record.
-fn replay_one(fd: i32, pictures: &[u8], counts: &mut [u64; 16]) -> bool {
+fn replay_one(fd: i32, pictures: &[u8], counts: &mut [u64; 32]) -> bool {
     let mut record = [0u8; 144];
     if io::read_full(fd, &mut record) < 144 {
         tally::print_failure(counts, b"the file ends early");
@@ -18,7 +18,7 @@ fn replay_one(fd: i32, pictures: &[u8], counts: &mut [u64; 16]) -> bool {
         tally::print_all(counts, parts::number(&record, 1));
         return false;
     }
-    if kind == 0 || 6 < kind {
+    if kind == 0 || 7 < kind {
         tally::print_failure(counts, b"a record of no known kind");
         return false;
     }
@@ -38,7 +38,7 @@ fn replay_one(fd: i32, pictures: &[u8], counts: &mut [u64; 16]) -> bool {
 
 // A proved loop has to end, so this one counts its turns down, from more than any file has records.
 fn replay(fd: i32, pictures: &[u8]) {
-    let mut counts = [0u64; 16];
+    let mut counts = [0u64; 32];
     let mut turns = u64::MAX;
     while turns > 0 && replay_one(fd, pictures, &mut counts) {
         turns -= 1;

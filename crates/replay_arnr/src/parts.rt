@@ -94,14 +94,14 @@ pub(crate) fn least(a: usize, b: usize) -> usize
 }
 
 // So many numbers: the stored ones, n of them, again and again.
-pub(crate) fn loaded(stored: &[u8], n: usize, given: usize) -> [u32; 7200]
-    ensures { λ r. ⌜ 7200 ≡ length r ⌝ }
+pub(crate) fn loaded(stored: &[u8], n: usize, given: usize) -> [u32; 8300]
+    ensures { λ r. ⌜ 8300 ≡ length r ⌝ }
 {
-    let mut numbers = [0u32; 7200];
+    let mut numbers = [0u32; 8300];
     if n == 0 {
         return numbers;
     }
-    let m = least(given, 7200);
+    let m = least(given, 8300);
     for k in 0..m {
         numbers[k] = word(stored, k % n);
     }

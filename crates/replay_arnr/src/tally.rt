@@ -1,29 +1,29 @@
-// Counts by kind, 1 to 6: compared at the kind, differing at 8 plus the kind. At 7 and 15 stand those of
-// all, at 8 the first record that differs, at 0 the builds that were run in both forms.
+// Counts by kind, 1 to 7: compared at the kind, differing at 16 plus the kind. At 15 and 31 stand those of
+// all, at 16 the first record that differs, at 0 the builds that were run in both forms.
 use std::num::wrapping_add_u64;
 
-fn bump(counts: &mut [u64; 16], at: usize) {
-    if at < 16 {
+fn bump(counts: &mut [u64; 32], at: usize) {
+    if at < 32 {
         counts[at] = wrapping_add_u64(counts[at], 1);
     }
 }
 
-// One more case of a kind from 1 to 6.
-pub(crate) fn add(counts: &mut [u64; 16], kind: usize, agrees: bool) {
-    bump(counts, 7);
+// One more case of a kind from 1 to 7.
+pub(crate) fn add(counts: &mut [u64; 32], kind: usize, agrees: bool) {
+    bump(counts, 15);
     bump(counts, kind);
     if agrees {
         return;
     }
-    if counts[8] == 0 {
-        counts[8] = counts[7];
+    if counts[16] == 0 {
+        counts[16] = counts[15];
     }
-    bump(counts, 15);
-    bump(counts, kind % 8 + 8);
+    bump(counts, 31);
+    bump(counts, kind % 16 + 16);
 }
 
 // One more build that was run over numbers and over records.
-pub(crate) fn add_both(counts: &mut [u64; 16]) {
+pub(crate) fn add_both(counts: &mut [u64; 32]) {
     bump(counts, 0);
 }
 
@@ -31,54 +31,55 @@ fn print(text: &[u8]) {
     io::write_all(1, text);
 }
 
-// The counts at a place below 8.
-fn print_counts(counts: &[u64; 16], at: usize, name: &[u8]) {
+// The counts at a place below 16.
+fn print_counts(counts: &[u64; 32], at: usize, name: &[u8]) {
     print(name);
-    if at < 8 {
+    if at < 16 {
         io::print_decimal(1, counts[at]);
         print(b" compared, ");
-        io::print_decimal(1, counts[8 + at]);
+        io::print_decimal(1, counts[16 + at]);
         print(b" differ");
     }
 }
 
-fn print_line(counts: &[u64; 16], at: usize, name: &[u8]) {
+fn print_line(counts: &[u64; 32], at: usize, name: &[u8]) {
     print_counts(counts, at, name);
     print(b"\n");
 }
 
-fn print_kinds(counts: &[u64; 16]) {
+fn print_kinds(counts: &[u64; 32]) {
     print_line(counts, 1, b"no frames: ");
     print_line(counts, 2, b"one frame: ");
     print_line(counts, 3, b"strength 0: ");
     print_line(counts, 4, b"windows: ");
+    print_line(counts, 7, b"caps: ");
     print_line(counts, 5, b"refusals: ");
     print_line(counts, 6, b"configurations: ");
-    print_counts(counts, 7, b"all: ");
+    print_counts(counts, 15, b"all: ");
     print(b"; ");
     io::print_decimal(1, counts[0]);
     print(b" builds were run in both forms, over numbers and over records\n");
 }
 
-pub(crate) fn print_failure(counts: &[u64; 16], why: &[u8]) {
+pub(crate) fn print_failure(counts: &[u64; 32], why: &[u8]) {
     print_kinds(counts);
     print(b"FAILED: cases, after ");
-    io::print_decimal(1, counts[7]);
+    io::print_decimal(1, counts[15]);
     print(b" records: ");
     print(why);
     print(b"\n");
 }
 
 // The end of the cases, of which there are to be so many records.
-pub(crate) fn print_all(counts: &[u64; 16], records: usize) {
-    if counts[7] != records as u64 {
+pub(crate) fn print_all(counts: &[u64; 32], records: usize) {
+    if counts[15] != records as u64 {
         print_failure(counts, b"not as many as were written");
         return;
     }
     print_kinds(counts);
-    if 0 < counts[8] {
+    if 0 < counts[16] {
         print(b"FAILED: first at record ");
-        io::print_decimal(1, counts[8]);
+        io::print_decimal(1, counts[16]);
         print(b"\n");
     }
 }

@@ -1,4 +1,5 @@
--- The starred lines of document 01: rows of one table, each what a definition gives and what the paper says, under one claim. Assumes nothing.
+-- The starred lines of document 01: rows of one table, each what a definition gives and what the paper says, under one claim; and the
+-- values of document 02's requests, rows of a second table under another. Assumes nothing.
 use mathlib.Core.Bool.{Bool, cond}
 use mathlib.Core.List.{List, [], _∷_, map}
 use mathlib.Core.Path.{_≡_, refl}
@@ -6,18 +7,20 @@ use Prim.Native.Nat.{ℕ}
 use lib.ListN.{getD}
 use lib.IntN.{ℤ, pos}
 use Rattle.laws.specs.Signed.{minus}
-use Rattle.laws.specs.Sums.{sumOver}
+use Rattle.laws.specs.Sums.{sumBelow, sumOver}
 use Rattle.laws.specs.Largest.{largest, nearest}
+use Rattle.laws.specs.Best.{betterOf, bestAmong, bestIn}
 use Rattle.prediction.specs.Samples.{distance}
 use Rattle.prediction.specs.Vector.{doubled, wholeOf, fractionOf}
 use Rattle.prediction.specs.Filter.{products, filtered, sixtapRows, sixtap}
-use Rattle.weights.specs.Weights.{scale, weightOf}
+use Rattle.weights.specs.Weights.{scale, weightOf, weightRead, cappedWeight}
 use Rattle.weights.specs.Blend.{totalWeight, weightedSum, denoised, distanceBound}
 use Rattle.window.specs.Layout.{sideOf}
 use Rattle.search.specs.Search.{onGrid}
 use Rattle.denoiser.specs.Grid.{gridBlock, blockIn}
-use Rattle.denoiser.specs.Search.{halved}
-use Rattle.denoiser.specs.Window.{sadAccepted}
+use Rattle.denoiser.specs.Search.{halved, sadOf, neighbourOf, neighboursOf, stepped, measuredBy, blockSearch}
+use Rattle.denoiser.specs.Window.{Other, Scene, Window, gate, shareOf, totalAt, sumAt, denoisedAt, acceptedIn, acceptedBlocks}
+use Rattle.denoiser.specs.Window.{costOf, displacementOf, sadAccepted, blockAccepted, displacedAt, arnrRule}
 
 -- 1 where the test holds, else 0
 flag : Bool → ℤ
@@ -35,8 +38,8 @@ sampleOf : ℕ → List ℕ → ℤ
 sampleOf selector support = pos (filtered (sixtap selector) (λ k. getD support k 0))
 
 -- the centre sample 100 and one other frame's displaced sample 104, at strength 1
-shareOf : ℕ → ℕ
-shareOf displaced = weightOf 1 (distance displaced 100)
+shareOn : ℕ → ℕ
+shareOn displaced = weightOf 1 (distance displaced 100)
 
 pub table : List Row
 table =
@@ -57,8 +60,8 @@ table =
     row (sampleOf 4 (0 ∷ 255 ∷ 0 ∷ 0 ∷ 255 ∷ 0 ∷ [])) (pos 0) ∷
     row (sampleOf 2 (10 ∷ 20 ∷ 30 ∷ 40 ∷ 50 ∷ 60 ∷ [])) (pos 32) ∷
     -- centre 100, one other 104, strength 1: sum 2432, total 24, sample 101
-    row (pos (weightedSum 100 shareOf (λ d. d) (104 ∷ []))) (pos 2432) ∷
-    row (pos (totalWeight shareOf (104 ∷ []))) (pos 24) ∷
+    row (pos (weightedSum 100 shareOn (λ d. d) (104 ∷ []))) (pos 2432) ∷
+    row (pos (totalWeight shareOn (104 ∷ []))) (pos 24) ∷
     row (pos (denoised 2432 24)) (pos 101) ∷
     -- 16 by 16 block: SAD 3327 accepted, 3328 excluded; 1 by 1: 12 and 13
     row (flag (sadAccepted (gridBlock 16 16 0 0) 3327)) (pos 1) ∷ row (flag (sadAccepted (gridBlock 16 16 0 0) 3328)) (pos 0) ∷
@@ -70,5 +73,42 @@ table =
     []
 
 pub values : map (λ (r : Row). r .given) table ≡ map (λ (r : Row). r .paper) table
-unfolding table row flag sampleOf shareOf products filtered sixtap sixtapRows scale weightOf sumOver totalWeight weightedSum denoised largest nearest distanceBound
+unfolding table row flag sampleOf shareOn products filtered sixtap sixtapRows scale weightOf sumOver totalWeight weightedSum denoised largest nearest distanceBound
 values = refl
+
+-- a picture of 1 by 1 whose centre is 100 in every plane, at strength 1, and one other frame of 104 with a cap
+flat : Scene
+flat = record { width = 1; height = 1; strength = 1; centre = λ k x y. 100 }
+
+capped : ℕ → Window Other
+capped cap = record { scene = flat; others = record { picture = λ k x y. 104; cap = cap } ∷ [] }
+
+-- its total weight, sum and denoised sample in Y, and its accepted blocks
+total : ℕ → ℤ
+total cap = pos (totalAt (arnrRule flat) (capped cap) 0 0 0)
+
+sum : ℕ → ℤ
+sum cap = pos (sumAt (arnrRule flat) (capped cap) 0 0 0)
+
+sample : ℕ → ℤ
+sample cap = pos (denoisedAt (arnrRule flat) (capped cap) 0 0 0)
+
+blocks : ℕ → ℤ
+blocks cap = pos (acceptedBlocks (arnrRule flat) (capped cap))
+
+pub requested : List Row
+requested =
+    -- request 7, centre 100, one other 104, strength 1: caps 16 and 8 give total 24, sum 2432, sample 101
+    row (total 16) (pos 24) ∷ row (sum 16) (pos 2432) ∷ row (sample 16) (pos 101) ∷
+    row (total 8) (pos 24) ∷ row (sum 8) (pos 2432) ∷ row (sample 8) (pos 101) ∷
+    -- cap 7 gives 23, 2328, 101; cap 3 gives 19, 1912, 101; cap 0 gives 16, 1600, 100
+    row (total 7) (pos 23) ∷ row (sum 7) (pos 2328) ∷ row (sample 7) (pos 101) ∷
+    row (total 3) (pos 19) ∷ row (sum 3) (pos 1912) ∷ row (sample 3) (pos 101) ∷
+    row (total 0) (pos 16) ∷ row (sum 0) (pos 1600) ∷ row (sample 0) (pos 100) ∷
+    -- and the block is accepted and counted at every cap
+    row (blocks 16) (pos 1) ∷ row (blocks 0) (pos 1) ∷
+    []
+
+pub request-values : map (λ (r : Row). r .given) requested ≡ map (λ (r : Row). r .paper) requested
+unfolding requested row flat capped total sum sample blocks totalAt sumAt denoisedAt totalWeight weightedSum denoised sumBelow sumOver shareOf arnrRule gate cappedWeight weightRead weightOf scale acceptedIn acceptedBlocks costOf displacementOf blockAccepted displacedAt sadOf neighbourOf neighboursOf stepped measuredBy blockSearch bestIn bestAmong betterOf
+request-values = refl

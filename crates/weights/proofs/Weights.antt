@@ -11,7 +11,7 @@ use lib.Seq.{ext-getD}
 use Rattle.laws.proofs.Tables.{listed}
 use Rattle.laws.specs.Tabulate.{tabulate}
 use Rattle.laws.proofs.Tabulate.{length-tabulate, getD-tabulate, tabulate-same}
-use Rattle.weights.specs.Weights.{scale, weightOf, weightRead}
+use Rattle.weights.specs.Weights.{scale, weightOf, weightRead, cappedWeight}
 
 -- the rows of n strengths by their rule
 unfoldable pub rows : ℕ → ℕ → List (List ℕ)
@@ -107,3 +107,20 @@ pub read-most : (strength e : ℕ) → weightRead strength e ≤ 16
 unfolding weightRead
 read-most zero e = omega arith
 read-most (suc s) e = weight-most (min (suc s) 6) e
+
+-- a capped weight is at most the cap and at most the curve's weight; a cap of 16 takes nothing away, and a cap of 0 leaves nothing
+pub record Capped (cap strength e : ℕ) : Type 0 where
+  pub by-cap : cappedWeight cap strength e ≤ cap
+  pub by-curve : cappedWeight cap strength e ≤ weightRead strength e
+  pub whole : 16 ≤ cap → cappedWeight cap strength e ≡ weightRead strength e
+  pub none : cap ≡ 0 → cappedWeight cap strength e ≡ 0
+
+pub capped : (cap strength e : ℕ) → Capped cap strength e
+unfolding cappedWeight
+capped cap strength e =
+    record {
+      by-cap = omega arith;
+      by-curve = omega arith;
+      whole = λ h. let m = read-most strength e in omega arith;
+      none = λ h. omega arith;
+    }

@@ -13,3 +13,7 @@ weightOf strength e = 16 * scale strength / (scale strength + e * e)
 unfoldable pub weightRead : ℕ → ℕ → ℕ
 weightRead zero e = 0
 weightRead (suc s) e = weightOf (min (suc s) 6) e
+
+-- the weight of a frame with a cap (document 02, request 7): the lesser of the cap and the curve's weight
+unfoldable pub cappedWeight : ℕ → ℕ → ℕ → ℕ
+cappedWeight cap strength e = min cap (weightRead strength e)

@@ -20,8 +20,8 @@ use Rattle.window.specs.declared.Checked.{Checked}
 use Rattle.window.specs.declared.Checked.the-variants.{Legal, Refused}
 use Rattle.window.specs.Layout.{half, packedSize}
 use Rattle.window.specs.Frames.{numbersPerFrame, planeOf}
-use Rattle.window.specs.Refusals.{Given, countOf, frameOf, centreOf, otherSized, planeUnfit}
-use Rattle.window.specs.Refusals.{frameUnfit, firstOtherSized, firstUnfit, buildLines, sizeOf, checks, checkedOutcome, refusalOutcome}
+use Rattle.window.specs.Refusals.{Given, countOf, frameOf, centreOf, otherSized, capTooHigh, planeUnfit}
+use Rattle.window.specs.Refusals.{frameUnfit, firstOtherSized, firstCapTooHigh, firstUnfit, buildLines, sizeOf, checks, checkedOutcome, refusalOutcome}
 
 pub record Built (c : Given) (s : Size) : Type 0 where
   pub inside : c .centre < countOf c
@@ -34,6 +34,7 @@ pub record Built (c : Given) (s : Size) : Type 0 where
   pub low : s .height ≤ 16383
   pub width : (g : ℕ) → g < countOf c → frameOf c g .width ≡ s .width
   pub height : (g : ℕ) → g < countOf c → frameOf c g .height ≡ s .height
+  pub caps : (g : ℕ) → g < countOf c → frameOf c g .cap ≤ 16
   pub fits : (g k : ℕ) → g < countOf c → k < 3 → bytesNeeded (planeOf (c .bytes) (frameOf c g) k) ≤ length (c .bytes)
   pub output : packedSize (s .width) (s .height) ≤ c .output
   pub sums : packedSize (s .width) (s .height) ≤ c .sums
@@ -65,7 +66,7 @@ plane-fits c g k e h = ltb-false (length (c .bytes)) (bytesNeeded (planeOf (c .b
     passes (suc (suc (suc j))) l = absurd (omega arith)
 
 pub built : (c : Given) (s : Size) → checks c ≡ accepted s → Built c s
-unfolding checks firstOtherSized firstUnfit
+unfolding checks firstOtherSized firstCapTooHigh firstUnfit
 built c s e =
     let t = skipped (buildLines c) (sizeOf (centreOf c)) s e in
     let size-is = answered (buildLines c) (sizeOf (centreOf c)) s e in
@@ -74,9 +75,10 @@ built c s e =
     let h = sized (centreOf c .height) (sides .1) in
     let p = packedSize (centreOf c .width) (centreOf c .height) in
     let n = countOf c in
-    let working = or-none (ltb (c .sums) p) (ltb (c .weights) p) (t .1 .1 .1 .1 .1 .1 .0) in
+    let working = or-none (ltb (c .sums) p) (ltb (c .weights) p) (t .1 .1 .1 .1 .1 .1 .1 .0) in
     let other = ltb-false (firstBelow (otherSized c) n) n (t .1 .1 .1 .0) in
-    let unfit = ltb-false (firstBelow (frameUnfit c) n) n (t .1 .1 .1 .1 .0) in
+    let high = ltb-false (firstBelow (capTooHigh c) n) n (t .1 .1 .1 .1 .0) in
+    let unfit = ltb-false (firstBelow (frameUnfit c) n) n (t .1 .1 .1 .1 .1 .0) in
     rw (sym size-is)
     (record {
       inside = leb-false n (c .centre) (t .0);
@@ -89,8 +91,9 @@ built c s e =
       low = h .1;
       width = λ g l. same-size c g (is-first (otherSized c) n .none g (omega (arith, other))) .0;
       height = λ g l. same-size c g (is-first (otherSized c) n .none g (omega (arith, other))) .1;
+      caps = λ g l. ltb-false 16 (frameOf c g .cap) (is-first (capTooHigh c) n .none g (omega (arith, high)));
       fits = λ g k l m. plane-fits c g k (is-first (frameUnfit c) n .none g (omega (arith, unfit))) m;
-      output = ltb-false (c .output) p (t .1 .1 .1 .1 .1 .0);
+      output = ltb-false (c .output) p (t .1 .1 .1 .1 .1 .1 .0);
       sums = ltb-false (c .sums) p (working .0);
       weights = ltb-false (c .weights) p (working .1);
     })

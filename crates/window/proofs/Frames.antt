@@ -6,8 +6,8 @@ use Prim.Native.Nat.{ℕ, _≤_, _<_, _+_, _*_}
 use borrow.Author.Tests.{lt-ltb, le-ltb}
 use lib.ListN.{length, getD}
 use Rattle.window.specs.Frames.{numbersPerFrame, frameCount, numberAt, frameAt, zeroFrame}
-use Rattle.window.specs.Refusals.{Given, centreOf, firstOtherSized, firstUnfit}
-use Rattle.window.specs.Internal.{sizeDiffers, planesUnfit, firstFrame}
+use Rattle.window.specs.Refusals.{Given, centreOf, firstOtherSized, firstCapTooHigh, firstUnfit}
+use Rattle.window.specs.Internal.{sizeDiffers, capAbove, planesUnfit, firstFrame}
 
 -- a number of a frame that is counted, and of one that is not
 module _ (numbers : List ℕ) (g : ℕ) where
@@ -30,13 +30,15 @@ frame-past numbers g h =
       number-past numbers g 4 h,
       number-past numbers g 5 h,
       number-past numbers g 6 h,
+      number-past numbers g 7 h,
     )
 
 -- the private functions find what Refusals says
 pub record Restated (c : Given) : Type 0 where
   pub sized : firstFrame (sizeDiffers (centreOf c)) (c .numbers) ≡ firstOtherSized c
+  pub caps : firstFrame capAbove (c .numbers) ≡ firstCapTooHigh c
   pub fits : firstFrame (planesUnfit (length (c .bytes))) (c .numbers) ≡ firstUnfit c
 
 pub restated : (c : Given) → Restated c
-unfolding firstOtherSized firstUnfit
-restated c = record { sized = refl; fits = refl }
+unfolding firstOtherSized firstCapTooHigh firstUnfit
+restated c = record { sized = refl; caps = refl; fits = refl }

@@ -2,3 +2,4 @@ pub mod Frames
 mod Scan
 mod Lines
 pub mod Built
+pub mod Caps

@@ -5,9 +5,9 @@ use mathlib.Core.List.{[], _∷_}
 use lib.Dec.{ltb, leb}
 use Rattle.laws.specs.Outcome.{refused, accepted}
 use Rattle.prediction.specs.Refusals.{badSide}
-use Rattle.window.specs.Refusals.{Given, countOf, frameOf, centreOf, firstOtherSized, firstUnfit, samplesOf, sizeValues, sizeOf, checks}
+use Rattle.window.specs.Refusals.{Given, countOf, frameOf, centreOf, firstOtherSized, firstCapTooHigh, firstUnfit, samplesOf, sizeValues, sizeOf, checks}
 
--- the tests of the seven lines
+-- the tests of the eight lines
 abbrev pub test1 : Given → Bool
 test1 c = leb (countOf c) (c .centre)
 
@@ -19,6 +19,9 @@ test3 c = badSide (centreOf c .width) || badSide (centreOf c .height)
 
 abbrev pub test4 : Given → Bool
 test4 c = ltb (firstOtherSized c) (countOf c)
+
+abbrev pub test29 : Given → Bool
+test29 c = ltb (firstCapTooHigh c) (countOf c)
 
 abbrev pub test5 : Given → Bool
 test5 c = ltb (firstUnfit c) (countOf c)
@@ -53,18 +56,29 @@ module _ (c : Given) (s : Sized c) where
   unfolding checks
   out4 e4 = simp (s .not1, s .not2, s .not3, e4)
 
-  pub out5 : test4 c ≡ false → test5 c ≡ true → refused 5 (firstUnfit c ∷ []) ≡ checks c
+  pub out29 : test4 c ≡ false → test29 c ≡ true → refused 29 (firstCapTooHigh c ∷ []) ≡ checks c
   unfolding checks
-  out5 e4 e5 = simp (s .not1, s .not2, s .not3, e4, e5)
+  out29 e4 e29 = simp (s .not1, s .not2, s .not3, e4, e29)
 
-  pub out6 : test4 c ≡ false → test5 c ≡ false → test6 c ≡ true → refused 6 [] ≡ checks c
-  unfolding checks
-  out6 e4 e5 e6 = simp (s .not1, s .not2, s .not3, e4, e5, e6)
+-- the lines that frames of one size, with caps of at most 16, have passed
+pub record Capped (c : Given) : Type 0 where
+  pub sized : Sized c
+  pub not4 : test4 c ≡ false
+  pub not29 : test29 c ≡ false
 
-  pub out7 : test4 c ≡ false → test5 c ≡ false → test6 c ≡ false → test7 c ≡ true → refused 7 [] ≡ checks c
+module _ (c : Given) (s : Capped c) where
+  pub out5 : test5 c ≡ true → refused 5 (firstUnfit c ∷ []) ≡ checks c
   unfolding checks
-  out7 e4 e5 e6 e7 = simp (s .not1, s .not2, s .not3, e4, e5, e6, e7)
+  out5 e5 = simp (s .sized .not1, s .sized .not2, s .sized .not3, s .not4, s .not29, e5)
 
-  pub out8 : test4 c ≡ false → test5 c ≡ false → test6 c ≡ false → test7 c ≡ false → accepted (sizeOf (centreOf c)) ≡ checks c
+  pub out6 : test5 c ≡ false → test6 c ≡ true → refused 6 [] ≡ checks c
   unfolding checks
-  out8 e4 e5 e6 e7 = simp (s .not1, s .not2, s .not3, e4, e5, e6, e7)
+  out6 e5 e6 = simp (s .sized .not1, s .sized .not2, s .sized .not3, s .not4, s .not29, e5, e6)
+
+  pub out7 : test5 c ≡ false → test6 c ≡ false → test7 c ≡ true → refused 7 [] ≡ checks c
+  unfolding checks
+  out7 e5 e6 e7 = simp (s .sized .not1, s .sized .not2, s .sized .not3, s .not4, s .not29, e5, e6, e7)
+
+  pub out8 : test5 c ≡ false → test6 c ≡ false → test7 c ≡ false → accepted (sizeOf (centreOf c)) ≡ checks c
+  unfolding checks
+  out8 e5 e6 e7 = simp (s .sized .not1, s .sized .not2, s .sized .not3, s .not4, s .not29, e5, e6, e7)

@@ -1,4 +1,4 @@
--- Frames as numbers: seven for each frame, in document 01's order. Assumes nothing.
+-- Frames as numbers: eight for each frame, document 01's seven in its order and then the cap of request 7. Assumes nothing.
 use mathlib.Core.Bool.{cond}
 use mathlib.Core.List.{List}
 use Prim.Native.Nat.{ℕ, zero, suc, _+_, _*_, _/_}
@@ -10,7 +10,7 @@ use Rattle.window.specs.Layout.{sideOf}
 
 -- the numbers of one frame
 abbrev pub numbersPerFrame : ℕ
-numbersPerFrame = 7
+numbersPerFrame = 8
 
 -- the frame count; numbers left over are not read
 abbrev pub frameCount : List ℕ → ℕ
@@ -20,7 +20,7 @@ frameCount numbers = length numbers / numbersPerFrame
 unfoldable pub numberAt : List ℕ → ℕ → ℕ → ℕ
 numberAt numbers g k = cond (ltb g (frameCount numbers)) (getD numbers (g * numbersPerFrame + k) 0) 0
 
--- frame g: width, height, start of Y, of U, of V, luma stride, chroma stride; from the frame count on, the frame of zeros
+-- frame g: width, height, start of Y, of U, of V, luma stride, chroma stride, cap; from the frame count on, the frame of zeros
 abbrev pub frameAt : List ℕ → ℕ → Frame
 frameAt numbers g =
     record {
@@ -31,11 +31,12 @@ frameAt numbers g =
       v = numberAt numbers g 4;
       «luma_stride» = numberAt numbers g 5;
       «chroma_stride» = numberAt numbers g 6;
+      cap = numberAt numbers g 7;
     }
 
 -- the frame of zeros
 abbrev pub zeroFrame : Frame
-zeroFrame = record { width = 0; height = 0; y = 0; u = 0; v = 0; «luma_stride» = 0; «chroma_stride» = 0 }
+zeroFrame = record { width = 0; height = 0; y = 0; u = 0; v = 0; «luma_stride» = 0; «chroma_stride» = 0; cap = 0 }
 
 -- where a plane starts, and its stride
 abbrev pub startOf : ℕ → Frame → ℕ

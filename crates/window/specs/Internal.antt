@@ -13,6 +13,10 @@ use Rattle.window.specs.Frames.{frameCount, frameAt, planeOf}
 abbrev pub sizeDiffers : Frame → Frame → Bool
 sizeDiffers centre f = not (eqb (f .width) (centre .width)) || not (eqb (f .height) (centre .height))
 
+-- a frame's cap exceeds 16
+abbrev pub capAbove : Frame → Bool
+capAbove f = ltb 16 (f .cap)
+
 -- plane k of a frame does not fit n bytes, and one of the three does not
 abbrev pub planeShort : ℕ → Frame → ℕ → Bool
 planeShort n f k = ltb n (bytesNeeded (planeOf [] f k))

@@ -7,9 +7,10 @@ ghost use Rattle.prediction.specs.Refusals.{badSide};
 ghost use Rattle.window.specs.Layout.{half, packedSize};
 ghost use Rattle.window.specs.Frames.{numbersPerFrame, frameCount, numberAt, frameAt};
 ghost use Rattle.window.specs.Refusals.{sizeOf, checks, checkedOutcome, given};
-ghost use Rattle.window.specs.Internal.{sizeDiffers, planesUnfit, firstFrame};
+ghost use Rattle.window.specs.Internal.{sizeDiffers, capAbove, planesUnfit, firstFrame};
 
-// A frame: its size, where its planes start in the picture bytes, and the bytes from row to row.
+// A frame: its size, where its planes start in the picture bytes, the bytes from row to row, and its cap: the most that it
+// weighs where it is not the centre.
 #[repr(C)]
 pub struct Frame {
     pub width: u32,
@@ -19,6 +20,7 @@ pub struct Frame {
     pub v: u32,
     pub luma_stride: u32,
     pub chroma_stride: u32,
+    pub cap: u32,
 }
 
 // A picture's size.
@@ -33,6 +35,7 @@ pub enum Refusal {
     TooManyFrames,
     BadSize(Size),
     OtherSize(Size, Size),
+    CapTooHigh(u32),
     PlaneUnfit(u32),
     ShortOutput,
     ShortWorking,
@@ -45,7 +48,10 @@ pub enum Checked {
 }
 
 // The numbers of one frame.
-pub const NUMBERS_PER_FRAME: usize = 7;
+pub const NUMBERS_PER_FRAME: usize = 8;
+
+// The largest cap that is not refused.
+pub const MAX_CAP: u32 = 16;
 
 // The frame count: numbers left over are not read.
 pub fn frame_count(numbers: &[u32]) -> usize
@@ -77,6 +83,7 @@ pub fn frame_at(numbers: &[u32], g: usize) -> Frame
         v: number_at(numbers, g, 4),
         luma_stride: number_at(numbers, g, 5),
         chroma_stride: number_at(numbers, g, 6),
+        cap: number_at(numbers, g, 7),
     }
 }
 
@@ -115,6 +122,28 @@ fn first_other_sized(numbers: &[u32], centre: Frame) -> usize
     let mut g: usize = 0;
     while g < count {
         if size_differs(frame_at(numbers, g), centre) {
+            return g;
+        }
+        g += 1;
+    }
+    g
+}
+
+// 29 of one frame: its cap exceeds 16.
+fn cap_too_high(f: Frame) -> bool
+    ensures { λ r. ⌜ r ≡ capAbove f ⌝ }
+{
+    MAX_CAP < f.cap
+}
+
+// 29: the first frame whose cap exceeds 16; the frame count where there is none.
+fn first_cap_too_high(numbers: &[u32]) -> usize
+    ensures { λ r. ⌜ r ≡ firstFrame capAbove (now (numbers .entry)) ⌝ }
+{
+    let count = frame_count(numbers);
+    let mut g: usize = 0;
+    while g < count {
+        if cap_too_high(frame_at(numbers, g)) {
             return g;
         }
         g += 1;
@@ -196,7 +225,7 @@ fn working_short(sums: usize, weights: usize, samples: usize) -> bool
     weights < samples
 }
 
-// The first of the refusals 1 to 7 that applies, or the picture's size.
+// The first of the refusals 1, 2, 3, 4, 29, 5, 6, 7 that applies, or the picture's size.
 pub fn check_build(
     bytes: &[u8],
     numbers: &[u32],
@@ -222,6 +251,10 @@ pub fn check_build(
     let other = first_other_sized(numbers, frame);
     if other < count {
         return Checked::Refused(Refusal::OtherSize(size_of(frame_at(numbers, other)), size));
+    }
+    let high = first_cap_too_high(numbers);
+    if high < count {
+        return Checked::Refused(Refusal::CapTooHigh(high as u32));
     }
     let unfit = first_unfit(bytes.len(), numbers);
     if unfit < count {

@@ -14,11 +14,11 @@ use Rattle.window.specs.declared.Frame.{Frame}
 use Rattle.window.specs.declared.Size.{Size}
 use Rattle.window.specs.Layout.{packedSize}
 use Rattle.window.specs.Frames.{frameAt}
-use Rattle.window.specs.Refusals.{Given, given, countOf, frameOf, centreOf, firstOtherSized, firstUnfit, samplesOf, sizeOf}
+use Rattle.window.specs.Refusals.{Given, given, countOf, frameOf, centreOf, firstOtherSized, firstCapTooHigh, firstUnfit, samplesOf, sizeOf}
 use Rattle.window.specs.Internal.{sizeDiffers, firstFrame}
 use Rattle.fetch.proofs.Squares as fetch
 use Rattle.window.proofs.Frames.{restated}
-use Rattle.window.proofs.Lines.{test1, test2, test3, test4, test5, test6, test7, Sized, out1, out2, out3, out4, out5, out6, out7, out8}
+use Rattle.window.proofs.Lines.{test1, test2, test3, test4, test5, test6, test7, Sized, Capped, out1, out2, out3, out4, out29, out5, out6, out7, out8}
 use Rattle.window.proofs.check_build.Statement.{statement}
 use Rattle.window.proofs.check_build.Tie as tie
 
@@ -140,51 +140,84 @@ returns-4 c =
     ∙ ap (λ (s : Size). refused 4 (f .width ∷ f .height ∷ s .width ∷ s .height ∷ [])) (size-is b)
     ∙ out4 (at4 o) (sized (o .before)) (is-less (other-is o) (count-is b) (c .before .before .if4 .taken))
 
-first-unfit-requires : tie.Need-first-unfit-requires
-first-unfit-requires c κs = search needs
+first-cap-too-high-requires : tie.Need-first-cap-too-high-requires
+first-cap-too-high-requires c κs = search needs
 
--- 5
-at5 : tie.After-first-unfit → Given
-at5 c = at4 (c .before .before)
+-- 29
+at29 : tie.After-first-cap-too-high → Given
+at29 c = at4 (c .before .before)
 
 not4 : (c : tie.Else4) → test4 (at4 (c .before)) ≡ false
 unfolding at4
 not4 c = not-less (other-is (c .before)) (count-is (c .before .before .before)) (c .if4 .left)
 
-unfit-is : (c : tie.After-first-unfit) → c .first-unfit .result ≡ firstUnfit (at5 c)
-unfolding called at1 at3 at4 at5
-unfit-is c = c .first-unfit .ensures ∙ restated (at5 c) .fits
+high-is : (c : tie.After-first-cap-too-high) → c .first-cap-too-high .result ≡ firstCapTooHigh (at29 c)
+unfolding called at1 at3 at4 at29
+high-is c = c .first-cap-too-high .ensures ∙ restated (at29 c) .caps
 
 cast-t22 : tie.Need-cast-t22
 cast-t22 c = search needs
 
 returns-5 : tie.Need-returns-5
-unfolding called at1 at3 at4 at5
+unfolding called at1 at3 at4 at29
 returns-5 c =
     let u = c .before in
     let i4 = u .before in
     let i3 = i4 .before .before in
+    ap (λ (g : ℕ). refused 29 (g ∷ [])) (high-is u)
+    ∙ out29 (at29 u) (sized i3) (not4 i4) (is-less (high-is u) (count-is (i3 .before)) (c .if5 .taken))
+
+capped : (c : tie.Else5) → Capped (at29 (c .before))
+unfolding at4 at29
+capped c =
+    let u = c .before in
+    let i4 = u .before in
+    let i3 = i4 .before .before in
+    record { sized = sized i3; not4 = not4 i4; not29 = not-less (high-is u) (count-is (i3 .before)) (c .if5 .left) }
+
+first-unfit-requires : tie.Need-first-unfit-requires
+first-unfit-requires c κs = search needs
+
+-- 5
+at5 : tie.After-first-unfit → Given
+at5 c = at29 (c .before .before)
+
+unfit-is : (c : tie.After-first-unfit) → c .first-unfit .result ≡ firstUnfit (at5 c)
+unfolding called at1 at3 at4 at29 at5
+unfit-is c = c .first-unfit .ensures ∙ restated (at5 c) .fits
+
+counted : (c : tie.After-first-unfit) → c .before .before .before .before .before .before .before .before .before .before .before .frame-count .result ≡ countOf (at5 c)
+unfolding at4 at29 at5
+counted c = count-is (c .before .before .before .before .before .before)
+
+cast-t25 : tie.Need-cast-t25
+cast-t25 c = search needs
+
+returns-6 : tie.Need-returns-6
+unfolding called at1 at3 at4 at29 at5
+returns-6 c =
+    let u = c .before in
     ap (λ (g : ℕ). refused 5 (g ∷ [])) (unfit-is u)
-    ∙ out5 (at5 u) (sized i3) (not4 i4) (is-less (unfit-is u) (count-is (i3 .before)) (c .if5 .taken))
+    ∙ out5 (at5 u) (capped (u .before)) (is-less (unfit-is u) (counted u) (c .if6 .taken))
 
 -- 6
-at6 : tie.Else5 → Given
+at6 : tie.Else6 → Given
 at6 c = at5 (c .before)
 
-not5 : (c : tie.Else5) → test5 (at6 c) ≡ false
-unfolding at4 at5 at6
-not5 c = not-less (unfit-is (c .before)) (count-is (c .before .before .before .before .before)) (c .if5 .left)
+not5 : (c : tie.Else6) → test5 (at6 c) ≡ false
+unfolding at5 at6
+not5 c = not-less (unfit-is (c .before)) (counted (c .before)) (c .if6 .left)
 
 samples-are : (c : tie.After-packed-size) → c .packed-size .result ≡ samplesOf (at6 (c .before))
-unfolding called at1 at3 at4 at5 at6
+unfolding called at1 at3 at4 at29 at5 at6
 samples-are c =
     c .packed-size .ensures
-    ∙ ap (λ (s : Size). packedSize (s .width) (s .height)) (size-is (c .before .before .before .before .before .before))
+    ∙ ap (λ (s : Size). packedSize (s .width) (s .height)) (size-is (c .before .before .before .before .before .before .before .before))
 
 packed-size-requires : tie.Need-packed-size-requires
 unfolding at3
 packed-size-requires c κs =
-    let i3 = c .before .before .before .before in
+    let i3 = c .before .before .before .before .before .before in
     let g = at3 (i3 .before) in
     let sides = or-none (badSide (centreOf g .width)) (badSide (centreOf g .height)) (sized i3 .not3) in
     let w = fetch.sized (centreOf g .width) (sides .0) in
@@ -192,45 +225,43 @@ packed-size-requires c κs =
     let e = size-is (i3 .before) in
     (omega (arith, w, ap (λ (s : Size). s .width) e), omega (arith, h, ap (λ (s : Size). s .height) e))
 
-not6 : (c : tie.Else6) → test6 (at6 (c .before .before)) ≡ false
-unfolding called at1 at3 at4 at5 at6
-not6 c = not-less refl (samples-are (c .before)) (c .if6 .left)
+not6 : (c : tie.Else7) → test6 (at6 (c .before .before)) ≡ false
+unfolding called at1 at3 at4 at29 at5 at6
+not6 c = not-less refl (samples-are (c .before)) (c .if7 .left)
 
-returns-6 : tie.Need-returns-6
-unfolding called at1 at3 at4 at5 at6
-returns-6 c =
-    let i5 = c .before .before in
-    let i4 = i5 .before .before in
-    out6 (at6 i5) (sized (i4 .before .before)) (not4 i4) (not5 i5) (is-less refl (samples-are (c .before)) (c .if6 .taken))
+returns-7 : tie.Need-returns-7
+unfolding called at1 at3 at4 at29 at5 at6
+returns-7 c =
+    let i6 = c .before .before in
+    out6 (at6 i6) (capped (i6 .before .before)) (not5 i6) (is-less refl (samples-are (c .before)) (c .if7 .taken))
 
 working-short-requires : tie.Need-working-short-requires
 working-short-requires c κs = search needs
 
 -- 7
 short-is : (c : tie.After-working-short) → c .working-short .result ≡ test7 (at6 (c .before .before .before))
-unfolding called at1 at3 at4 at5 at6
+unfolding called at1 at3 at4 at29 at5 at6
 short-is c =
     let p = c .before .before in
-    let s = c .before .before .before .before .before .before .before .before .before .before .before .before .before .before .before .before .args in
+    let s = c .before .before .before .before .before .before .before .before .before .before .before .before .before .before .before .before .before .before .args in
     c .working-short .ensures ∙ ap (λ (n : ℕ). ltb (s .sums) n || ltb (s .weights) n) (samples-are p)
 
-returns-7 : tie.Need-returns-7
-unfolding called at1 at3 at4 at5 at6
-returns-7 c =
-    let i6 = c .before .before in
-    let i5 = i6 .before .before in
-    let i4 = i5 .before .before in
-    out7 (at6 i5) (sized (i4 .before .before)) (not4 i4) (not5 i5) (not6 i6) (sym (short-is (c .before)) ∙ c .if7 .taken)
-
 returns-8 : tie.Need-returns-8
-unfolding called at1 at3 at4 at5 at6
+unfolding called at1 at3 at4 at29 at5 at6
 returns-8 c =
-    let i6 = c .before .before in
+    let i7 = c .before .before in
+    let i6 = i7 .before .before in
+    out7 (at6 i6) (capped (i6 .before .before)) (not5 i6) (not6 i7) (sym (short-is (c .before)) ∙ c .if8 .taken)
+
+returns-9 : tie.Need-returns-9
+unfolding called at1 at3 at4 at29 at5 at6
+returns-9 c =
+    let i7 = c .before .before in
+    let i6 = i7 .before .before in
     let i5 = i6 .before .before in
-    let i4 = i5 .before .before in
-    let i3 = i4 .before .before in
+    let i3 = i5 .before .before .before .before in
     ap (λ (s : Size). accepted s) (size-is (i3 .before))
-    ∙ out8 (at6 i5) (sized i3) (not4 i4) (not5 i5) (not6 i6) (sym (short-is (c .before)) ∙ c .if7 .left)
+    ∙ out8 (at6 i6) (capped i5) (not5 i6) (not6 i7) (sym (short-is (c .before)) ∙ c .if8 .left)
 
 pub check-build-spec : {M : Type 1} → statement M
 check-build-spec =
@@ -247,11 +278,14 @@ check-build-spec =
     frame-at-requires-2
     size-of-requires-2
     returns-4
-    first-unfit-requires
+    first-cap-too-high-requires
     cast-t22
     returns-5
-    packed-size-requires
+    first-unfit-requires
+    cast-t25
     returns-6
-    working-short-requires
+    packed-size-requires
     returns-7
-    returns-8)
+    working-short-requires
+    returns-8
+    returns-9)

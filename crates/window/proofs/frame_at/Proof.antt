@@ -24,9 +24,13 @@ number-at-requires-6 c κs = search needs
 number-at-requires-7 : tie.Need-number-at-requires-7
 number-at-requires-7 c κs = search needs
 
+number-at-requires-8 : tie.Need-number-at-requires-8
+number-at-requires-8 c κs = search needs
+
 returns : tie.Need-returns
 returns c =
-    let n6 = c .before in
+    let n7 = c .before in
+    let n6 = n7 .before in
     let n5 = n6 .before in
     let n4 = n5 .before in
     let n3 = n4 .before in
@@ -39,7 +43,8 @@ returns c =
       n4 .number-at4 .ensures,
       n5 .number-at5 .ensures,
       n6 .number-at6 .ensures,
-      c .number-at7 .ensures,
+      n7 .number-at7 .ensures,
+      c .number-at8 .ensures,
     )
 
 pub frame-at-spec : {M : Type 1} → statement M
@@ -53,4 +58,5 @@ frame-at-spec =
     number-at-requires-5
     number-at-requires-6
     number-at-requires-7
+    number-at-requires-8
     returns)

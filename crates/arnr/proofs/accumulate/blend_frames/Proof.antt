@@ -6,13 +6,14 @@ use native.Mathlib.Nat.{mul-le-mul-right, le-trans}
 use lib.IntN.{ℤ}
 use lib.ListN.{getD}
 use Rattle.laws.specs.Sums.{sumOver}
+use Rattle.window.specs.declared.Frame.{Frame}
 use Rattle.window.specs.Layout.{packedSize}
 use Rattle.window.specs.Frames.{frameAt}
-use Rattle.denoiser.specs.Window.{Picture, acceptedIn}
-use Rattle.denoiser.specs.Pictures.{pictureOf, othersOf}
-use Rattle.denoiser.specs.Internal.{Lent, Slack, Spread, packedScene, curveRule, curveShare, curveTerm}
+use Rattle.denoiser.specs.Window.{Other, acceptedIn}
+use Rattle.denoiser.specs.Pictures.{pictureOf, otherOf, othersOf}
+use Rattle.denoiser.specs.Internal.{Lent, Slack, Light, Spread, packedScene, curveRule, curveShare, curveTerm, cappedCurve, otherShare, otherTerm, otherBlocks}
 use Rattle.denoiser.proofs.Others.{others-none, others-more, others-centre, others-most}
-use Rattle.denoiser.proofs.Pictures.{picture-byte, share-light, term-light}
+use Rattle.denoiser.proofs.Pictures.{picture-byte, capped-light, other-share-light, other-term-light}
 use Rattle.denoiser.proofs.Spreads.{spread-none, spread-then, spread-same, spread-slack, spread-lent}
 use native.Mathlib.Omega.{arith}
 use borrow.Author.Needs.{needs}
@@ -22,10 +23,10 @@ use Rattle.arnr.proofs.accumulate.blend_frames.Tie as tie
 abbrev Inv-loop : tie.InvT-loop
 Inv-loop bytes numbers count centre w h curve out sums₀ weights₀ total₀ g₀ sums weights total g =
     (g ≤ count)
-    × (total ≡ sumOver (acceptedIn (curveRule curve (packedScene w h out)) (packedScene w h out)) (othersOf bytes numbers centre g))
+    × (total ≡ sumOver (otherBlocks curve (packedScene w h out)) (othersOf bytes numbers centre g))
     × (total ≤ 1048576 * g)
-    × Spread w h (λ k x y. sumOver (λ f. curveTerm curve (packedScene w h out) f k x y) (othersOf bytes numbers centre g)) sums₀ sums
-    × Spread w h (λ k x y. sumOver (λ f. curveShare curve (packedScene w h out) f k x y) (othersOf bytes numbers centre g)) weights₀ weights
+    × Spread w h (λ k x y. sumOver (λ f. otherTerm curve (packedScene w h out) f k x y) (othersOf bytes numbers centre g)) sums₀ sums
+    × Spread w h (λ k x y. sumOver (λ f. otherShare curve (packedScene w h out) f k x y) (othersOf bytes numbers centre g)) weights₀ weights
 
 abbrev μ-loop : tie.MeasureT-loop
 μ-loop bytes numbers count centre w h curve out sums₀ weights₀ total₀ g₀ sums weights total g = count - g
@@ -50,8 +51,8 @@ module _ (l : tie.At-loop Inv-loop μ-loop) where
       let s = l .before .before .before .before .before .before in
       let light = s .pre .1 .1 .1 .0 in
       spread-slack (s .args .w) (s .args .h) (l .loop .inv .3) (l .loop .inv .4) 6 1024 (s .pre .1 .0 .1)
-      (λ k x y. le-trans (others-most (s .args .bytes .now) (s .args .numbers .now) (s .args .centre) _ 4080 (l .loop .g) (λ g. term-light (s .args .curve .now) _ _ k x y light (byte g k))) (mul-le-mul-right 4080 few))
-      (λ k x y. le-trans (others-most (s .args .bytes .now) (s .args .numbers .now) (s .args .centre) _ 16 (l .loop .g) (λ g. share-light (s .args .curve .now) _ _ k x y light)) (mul-le-mul-right 16 few))
+      (λ k x y. le-trans (others-most (s .args .bytes .now) (s .args .numbers .now) (s .args .centre) _ 4080 (l .loop .g) (λ g. other-term-light (s .args .curve .now) _ _ k x y light (byte g k))) (mul-le-mul-right 4080 few))
+      (λ k x y. le-trans (others-most (s .args .bytes .now) (s .args .numbers .now) (s .args .centre) _ 16 (l .loop .g) (λ g. other-share-light (s .args .curve .now) _ _ k x y light)) (mul-le-mul-right 16 few))
       (s .pre .1 .1 .1 .1)
 
   lent : Lent (packedSize (l .before .before .before .before .before .before .args .w) (l .before .before .before .before .before .before .args .h)) (l .before .before .before .before .before .before .args .out .now) (l .loop .sums) (l .loop .weights)
@@ -77,7 +78,7 @@ loop-again : tie.Need-loop-again Inv-loop μ-loop
 loop-again c =
     let l = c .before .before .loop in
     let a = c .before .before .before .before .before .before .before .before .args in
-    let past : (f : Picture → ℕ) → sumOver f (othersOf (a .bytes .now) (a .numbers .now) (a .centre) (l .g)) ≡ sumOver f (othersOf (a .bytes .now) (a .numbers .now) (a .centre) (l .g + 1))
+    let past : (f : Other → ℕ) → sumOver f (othersOf (a .bytes .now) (a .numbers .now) (a .centre) (l .g)) ≡ sumOver f (othersOf (a .bytes .now) (a .numbers .now) (a .centre) (l .g + 1))
     = λ f. sym (others-centre (a .bytes .now) (a .numbers .now) (a .centre) f (l .g) (c .if1 .taken)) in (
       omega (arith, c .before .loop-test .taken),
       l .inv .1 ∙ past _,
@@ -89,53 +90,66 @@ loop-again c =
 frame-at-requires : tie.Need-frame-at-requires Inv-loop μ-loop
 frame-at-requires c κs = search needs
 
+capped-requires : tie.Need-capped-requires Inv-loop μ-loop
+capped-requires c κs = search needs
+
+frame-at-requires-2 : tie.Need-frame-at-requires-2 Inv-loop μ-loop
+frame-at-requires-2 c κs = search needs
+
+-- the curve that is lent on is cut at the frame's cap
+cut-is : (c : tie.After-capped Inv-loop μ-loop)
+    → c .capped .result ≡ cappedCurve (c .before .before .before .before .before .before .before .before .before .before .args .curve .now) (frameAt (c .before .before .before .before .before .before .before .before .before .before .args .numbers .now) (c .before .before .before .before .loop .g) .cap)
+cut-is c = c .capped .ensures ∙ ap (λ (f : Frame). cappedCurve (c .before .before .before .before .before .before .before .before .before .before .args .curve .now) (f .cap)) (c .before .frame-at .ensures)
+
 blend-frame-requires : tie.Need-blend-frame-requires Inv-loop μ-loop
 blend-frame-requires c κs =
-    let s = c .before .before .before .before .before .before .before .before .before .before .before in
-    let l = c .before .before .before .before .before in
+    let s = c .before .before .before .before .before .before .before .before .before .before .before .before .before .before in
+    let l = c .before .before .before .before .before .before .before .before in
     let g = l .loop .g in
-    let less = c .before .before .before .before .loop-test .taken in
+    let less = c .before .before .before .before .before .before .before .loop-test .taken in
     let size = s .pre .0 .size g less in
-    rw (c .before .before .frame-at .ensures) (
+    let light = subst Light (sym (cut-is (c .before .before .before .before))) (capped-light (s .args .curve .now) (frameAt (s .args .numbers .now) g .cap) (s .pre .1 .1 .1 .0)) in
+    rw (c .before .before .before .frame-at2 .ensures) (
       s .pre .0 .whole g less,
       (
         sized (λ a b. Lent (packedSize a b) (s .args .out .now) (l .loop .sums) (l .loop .weights)) (sym (size .0)) (sym (size .1)) (lent l),
-        (s .pre .1 .1 .1 .0, slack l),
+        (light, slack l),
       ),
     )
 
 add-total : tie.Need-add-total Inv-loop μ-loop
-add-total c = omega (arith, c .before .before .before .before .blend-frame .ensures .0 .1, c .before .before .before .before .before .before .before .before .before .before .loop .inv .2, c .before .before .before .before .before .before .before .before .before .loop-test .taken, c .before .before .before .before .before .before .before .before .before .before .before .before .before .before .before .before .pre .1 .0 .0)
+add-total c = omega (arith, c .before .before .before .before .blend-frame .ensures .0 .1, c .before .before .before .before .before .before .before .before .before .before .before .before .before .loop .inv .2, c .before .before .before .before .before .before .before .before .before .before .before .before .loop-test .taken, c .before .before .before .before .before .before .before .before .before .before .before .before .before .before .before .before .before .before .before .pre .1 .0 .0)
 
 add-g-2 : tie.Need-add-g-2 Inv-loop μ-loop
-add-g-2 c = search needs
+add-g-2 c = omega (arith, c .before .before .before .before .before .before .before .before .before .before .before .before .loop-test .taken, c .before .before .before .before .before .before .before .before .before .before .before .before .before .before .before .before .before .before .before .pre .1 .0 .0)
 
 loop-less-2 : tie.Need-loop-less-2 Inv-loop μ-loop
 loop-less-2 c = search needs
 
 loop-again-2 : tie.Need-loop-again-2 Inv-loop μ-loop
+unfolding otherTerm otherShare otherBlocks
 loop-again-2 c =
-    let l = c .before .before .before .before .before .before .before .before .before .before .loop in
-    let s = c .before .before .before .before .before .before .before .before .before .before .before .before .before .before .before .before in
+    let l = c .before .before .before .before .before .before .before .before .before .before .before .before .before .loop in
+    let s = c .before .before .before .before .before .before .before .before .before .before .before .before .before .before .before .before .before .before .before in
     let a = s .args in
     let bytes = a .bytes .now in
     let numbers = a .numbers .now in
     let out = a .out .now in
-    let curve = a .curve .now in
     let f = frameAt numbers (l .g) in
-    let size = s .pre .0 .size (l .g) (c .before .before .before .before .before .before .before .before .before .loop-test .taken) in
-    let done = rw (c .before .before .before .before .before .before .before .frame-at .ensures) at (c .before .before .before .before .blend-frame .ensures) in
-    let more : (t : Picture → ℕ) → sumOver t (othersOf bytes numbers (a .centre) (l .g)) + t (pictureOf bytes f) ≡ sumOver t (othersOf bytes numbers (a .centre) (l .g + 1))
-    = λ t. sym (others-more bytes numbers (a .centre) t (l .g) (c .before .before .before .before .before .before .before .before .if1 .left)) in
+    let cut = cappedCurve (a .curve .now) (f .cap) in
+    let size = s .pre .0 .size (l .g) (c .before .before .before .before .before .before .before .before .before .before .before .before .loop-test .taken) in
+    let done = rw (cut-is (c .before .before .before .before .before .before .before .before .before)) at (rw (c .before .before .before .before .before .before .before .before .frame-at2 .ensures) at (c .before .before .before .before .blend-frame .ensures)) in
+    let more : (t : Other → ℕ) → sumOver t (othersOf bytes numbers (a .centre) (l .g)) + t (otherOf bytes f) ≡ sumOver t (othersOf bytes numbers (a .centre) (l .g + 1))
+    = λ t. sym (others-more bytes numbers (a .centre) t (l .g) (c .before .before .before .before .before .before .before .before .before .before .before .if1 .left)) in
     let new = c .before .before .before .before .blend-frame in
-    let counted = sized (λ w h. new .result ≡ acceptedIn (curveRule curve (packedScene w h out)) (packedScene w h out) (pictureOf bytes f)) (size .0) (size .1) (done .0 .0) in
-    let terms = sized-spread (λ w h. curveTerm curve (packedScene w h out) (pictureOf bytes f)) (size .0) (size .1) (done .1 .0) in
-    let shares = sized-spread (λ w h. curveShare curve (packedScene w h out) (pictureOf bytes f)) (size .0) (size .1) (done .1 .1) in (
-      omega (arith, c .before .before .before .before .before .before .before .before .before .loop-test .taken),
-      ap (λ (t : ℕ). t + new .result) (l .inv .1) ∙ ap (λ (t : ℕ). sumOver (acceptedIn (curveRule curve (packedScene (a .w) (a .h) out)) (packedScene (a .w) (a .h) out)) (othersOf bytes numbers (a .centre) (l .g)) + t) counted ∙ more _,
+    let counted = sized (λ w h. new .result ≡ acceptedIn (curveRule cut (packedScene w h out)) (packedScene w h out) (pictureOf bytes f)) (size .0) (size .1) (done .0 .0) in
+    let terms = sized-spread (λ w h. curveTerm cut (packedScene w h out) (pictureOf bytes f)) (size .0) (size .1) (done .1 .0) in
+    let shares = sized-spread (λ w h. curveShare cut (packedScene w h out) (pictureOf bytes f)) (size .0) (size .1) (done .1 .1) in (
+      omega (arith, c .before .before .before .before .before .before .before .before .before .before .before .before .loop-test .taken),
+      ap (λ (t : ℕ). t + new .result) (l .inv .1) ∙ ap (λ (t : ℕ). sumOver (otherBlocks (a .curve .now) (packedScene (a .w) (a .h) out)) (othersOf bytes numbers (a .centre) (l .g)) + t) counted ∙ more _,
       omega (arith, l .inv .2, done .0 .1),
-      spread-then (a .w) (a .h) _ (l .inv .3) terms (λ k x y hx hy. more (λ p. curveTerm curve (packedScene (a .w) (a .h) out) p k x y)),
-      spread-then (a .w) (a .h) _ (l .inv .4) shares (λ k x y hx hy. more (λ p. curveShare curve (packedScene (a .w) (a .h) out) p k x y)),
+      spread-then (a .w) (a .h) _ (l .inv .3) terms (λ k x y hx hy. more (λ p. otherTerm (a .curve .now) (packedScene (a .w) (a .h) out) p k x y)),
+      spread-then (a .w) (a .h) _ (l .inv .4) shares (λ k x y hx hy. more (λ p. otherShare (a .curve .now) (packedScene (a .w) (a .h) out) p k x y)),
     )
 
 same-length : tie.Need-same-length Inv-loop μ-loop
@@ -163,6 +177,8 @@ blend-frames-spec =
     loop-less
     loop-again
     frame-at-requires
+    capped-requires
+    frame-at-requires-2
     blend-frame-requires
     add-total
     add-g-2

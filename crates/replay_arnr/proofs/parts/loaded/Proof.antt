@@ -1,4 +1,4 @@
--- `loaded` is safe and ends: `k` goes up to at most 7200, the length, which a store keeps. Assumes nothing.
+-- `loaded` is safe and ends: `k` goes up to at most 8300, the length, which a store keeps. Assumes nothing.
 use Prim.Native.Nat.{_≤_, _<_, _-_}
 use mathlib.Core.Path.{_≡_, refl}
 use native.Mathlib.Omega.{arith}
@@ -8,7 +8,7 @@ use Rattle.replay_arnr.proofs.parts.loaded.Statement.{statement}
 use Rattle.replay_arnr.proofs.parts.loaded.Tie as tie
 
 abbrev Inv-loop : tie.InvT-loop
-Inv-loop stored n given numbers₀ m k₀ numbers k = (k ≤ m) × (m ≤ 7200) × (7200 ≡ length numbers) × (0 < n)
+Inv-loop stored n given numbers₀ m k₀ numbers k = (k ≤ m) × (m ≤ 8300) × (8300 ≡ length numbers) × (0 < n)
 
 abbrev μ-loop : tie.MeasureT-loop
 μ-loop stored n given numbers₀ m k₀ numbers k = m - k
