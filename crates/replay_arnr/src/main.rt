@@ -1,6 +1,6 @@
 // Replays the stored answers of the Rust originals, the documents' refusals, and windows with caps below 16, on the builder, over
 // numbers and over frame records, and on its configuration, and prints how many cases it compared and how many differ: the empty
-// window first, then one frame, then strength 0, then windows, caps, refusals and configurations.
+// window first, then one frame, then strength 0, then windows, refusals, configurations and caps.
 // The layout of `pictures` and `cases` is written in oracle/src/denoiser/mod.rs.
 mod builds;
 mod parts;

@@ -52,9 +52,9 @@ fn print_kinds(counts: &[u64; 32]) {
     print_line(counts, 2, b"one frame: ");
     print_line(counts, 3, b"strength 0: ");
     print_line(counts, 4, b"windows: ");
-    print_line(counts, 7, b"caps: ");
     print_line(counts, 5, b"refusals: ");
     print_line(counts, 6, b"configurations: ");
+    print_line(counts, 7, b"caps: ");
     print_counts(counts, 15, b"all: ");
     print(b"; ");
     io::print_decimal(1, counts[0]);
