@@ -1,6 +1,6 @@
 //! Finds the originals and writes, into OUT_DIR only, what the crate root includes:
-//! a `mod` line for each of the six files, derived copies of motion_search.rs and arnr.rs that count, and one of
-//! motion_search.rs that takes a version.
+//! a `mod` line for each of the six files, derived copies of motion_search.rs and arnr.rs that count, one of
+//! motion_search.rs that takes a version and one of arnr.rs that takes caps.
 //! VP8_SOURCES names their folder; a relative one, as the default, is seen from the repository's root.
 //! Links the model's static library where MODEL_LIB names it, for the comparison and the benchmark.
 
@@ -27,6 +27,7 @@ fn main() {
         fs::write(out.join("sources.rs"), mod_lines(&folder, &out)).unwrap();
         fs::write(out.join("counted_motion_search.rs"), counted_search(&folder)).unwrap();
         fs::write(out.join("counted_arnr.rs"), counted_builder(&folder)).unwrap();
+        fs::write(out.join("capped_arnr.rs"), capped_builder(&folder)).unwrap();
         fs::write(out.join("versioned_motion_search.rs"), versioned_search(&folder)).unwrap();
     } else {
         println!("cargo::rustc-cfg=sources_absent");
@@ -60,7 +61,7 @@ fn mod_lines(folder: &Path, out: &Path) -> String {
         format!("#[allow(dead_code, unused_imports, clippy::all)]\n#[path = {path:?}]\npub mod {name};\n")
     };
     let mut lines: String = NAMES.into_iter().map(|name| line(file(folder, name), name)).collect();
-    for name in ["counted_motion_search", "counted_arnr", "versioned_motion_search"] {
+    for name in ["counted_motion_search", "counted_arnr", "capped_arnr", "versioned_motion_search"] {
         lines += &line(file(out, name), name);
     }
     lines
@@ -87,6 +88,16 @@ fn counted_builder(folder: &Path) -> String {
     let text = replaced(&text, call, &format!("                crate::counts::note_block();\n{call}"), 1);
     let head = "fn resolve_plane(plane: &mut [u8], acc: &[u32], wsum: &[u32]) {\n";
     replaced(&text, head, &format!("{head}    crate::counts::note_plane(acc, wsum);\n"), 1)
+}
+
+// The counted arnr.rs with a cap for each frame as the last parameter of the builder: the frame's weight table is cut at
+// its cap before its blocks are accumulated, and nothing else is changed.
+fn capped_builder(folder: &Path) -> String {
+    let last = "    cfg: &ArnrConfig,\n";
+    let text = replaced(&counted_builder(folder), last, &format!("{last}    caps: &[u32],\n"), 1);
+    let skip = "        if fi == center {\n            continue;\n        }\n";
+    let cut = "        let wt_table = wt_table.map(|weight| weight.min(caps[fi]));\n";
+    replaced(&text, skip, &format!("{skip}{cut}"), 1)
 }
 
 // motion_search.rs with a version as the last parameter of the SAD at any vector and of both refinements, handed on to

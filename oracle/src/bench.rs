@@ -12,7 +12,7 @@ use crate::motion_vector::Mv;
 use crate::paper::denoiser::Window;
 use crate::paper::search::{NO_CEILING, sad};
 use crate::pictures::{by_account, cut};
-use crate::refusals::packed_size;
+use crate::refusals::{Frame, MAX_CAP, packed_size};
 use crate::rows::{self, Rows, Source};
 use crate::versions;
 use std::hint::black_box;
@@ -559,12 +559,13 @@ fn pictures((width, height): (usize, usize), count: usize, step: usize) -> Vec<u
     (0..count).flat_map(picture).collect()
 }
 
-// The numbers of pictures packed one after the other.
-fn packed_frames((width, height): (usize, usize), count: usize) -> Vec<[u32; 7]> {
+// The numbers of pictures packed one after the other; every cap is 16, as it has to be beside the Rust.
+fn packed_frames((width, height): (usize, usize), count: usize) -> Vec<Frame> {
     let samples = packed_size(width as u64, height as u64) as usize;
     let (y, columns) = (width * height, width.div_ceil(2));
     let u = y + columns * height.div_ceil(2);
-    let numbers = |g: usize| [width, height, g * samples, g * samples + y, g * samples + u, width, columns];
+    let cap = MAX_CAP as usize;
+    let numbers = |g: usize| [width, height, g * samples, g * samples + y, g * samples + u, width, columns, cap];
     (0..count).map(|g| numbers(g).map(|n| n as u32)).collect()
 }
 

@@ -1,6 +1,6 @@
 //! Counts beneath the diamond and the builder: `counted_motion_search` is motion_search.rs with calls of
-//! `note_sad` and `note_round` put in, `counted_arnr` is arnr.rs with calls of `note_block` and `note_plane`.
-//! The unchanged file answers; the counted copy must agree with it before its counts are taken.
+//! `note_sad` and `note_round` put in, `counted_arnr` is arnr.rs with calls of `note_block` and `note_plane`, which
+//! `capped_arnr` has too (see caps.rs). The unchanged file answers; the counted copy must agree with it before its counts are taken.
 
 use crate::arnr::{ArnrConfig, ArnrPicture, build_arnr_altref};
 use crate::counted_arnr;
@@ -37,8 +37,16 @@ pub fn note_plane(acc: &[u32], wsum: &[u32]) {
     });
 }
 
+/// What a copy of the builder gives, with the sums and the total weights that it kept and the blocks that it counted.
+pub fn noted<T>(copy: impl FnOnce() -> T) -> (T, (Vec<u32>, Vec<u32>), u64) {
+    BLOCKS.set(0);
+    PLANES.take();
+    (copy(), PLANES.take(), BLOCKS.get())
+}
+
 /// The builder's picture with its sums, its total weights, both empty where the centre is only cropped,
 /// and the blocks accepted.
+#[derive(PartialEq, Eq)]
 pub struct CountedPicture {
     pub picture: ArnrPicture,
     pub sums: Vec<u32>,
@@ -48,18 +56,16 @@ pub struct CountedPicture {
 
 pub fn build(frames: &[I420Frame<'_>], centre: usize, config: &ArnrConfig) -> Result<CountedPicture, EncodeError> {
     let picture = build_arnr_altref(frames, centre, config)?;
-    BLOCKS.set(0);
-    PLANES.take();
     let same = counted_arnr::ArnrConfig::default().with_strength(config.strength);
-    let again = counted_arnr::build_arnr_altref(frames, centre, &same)?;
+    let (again, (sums, weights), accepted) = noted(|| counted_arnr::build_arnr_altref(frames, centre, &same));
+    let again = again?;
     let planes = |w, h, y: &[u8], u: &[u8], v: &[u8]| (w, h, [y, u, v].concat());
     assert_eq!(
         planes(picture.width, picture.height, &picture.y, &picture.u, &picture.v),
         planes(again.width, again.height, &again.y, &again.u, &again.v),
         "the counted copy answers otherwise"
     );
-    let (sums, weights) = PLANES.take();
-    Ok(CountedPicture { picture, sums, weights, accepted: BLOCKS.get() })
+    Ok(CountedPicture { picture, sums, weights, accepted })
 }
 
 /// The diamond's answer with the SADs computed and the rounds made.

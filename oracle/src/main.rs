@@ -19,6 +19,8 @@ include!(concat!(env!("OUT_DIR"), "/sources.rs"));
 
 #[cfg(all(model, not(sources_absent)))]
 mod bench;
+#[cfg(not(sources_absent))]
+mod caps;
 #[cfg(all(model, not(sources_absent)))]
 mod cells;
 #[cfg(all(model, not(sources_absent)))]

@@ -83,6 +83,7 @@ pub struct Frame {
     pub v: u32,
     pub luma_stride: u32,
     pub chroma_stride: u32,
+    pub cap: u32,
 }
 
 #[repr(C)]

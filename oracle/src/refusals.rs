@@ -1,14 +1,20 @@
-//! Document 01's refusals and those of requests 1, 10 and 14, in their order, in exact arithmetic. 0 means that the call
-//! is accepted.
+//! Document 01's refusals and those of requests 1, 7, 10 and 14, in their order, in exact arithmetic. 0 means that the
+//! call is accepted.
 //! Only accepted inputs are handed to the originals, and windows that 3 or 4 refuses, whose own error is held against it.
 
 use crate::motion_vector::Mv;
+
+/// Width, height, start of Y, of U and of V, luma stride, chroma stride, cap.
+pub type Frame = [u32; NUMBERS_PER_FRAME];
+
+pub const NUMBERS_PER_FRAME: usize = 8;
+pub const MAX_CAP: u32 = 16;
 
 /// A window as the builder takes it: the length of the picture bytes, the frames, and the lent slices' lengths.
 #[derive(Clone, Copy)]
 pub struct Build<'a> {
     pub bytes: u64,
-    pub frames: &'a [[u32; 7]],
+    pub frames: &'a [Frame],
     pub centre: u64,
     pub output: u64,
     pub sums: u64,
@@ -16,8 +22,9 @@ pub struct Build<'a> {
 }
 
 /// 1: the centre index is not below the frame count. 2: the frame count exceeds 1024. 3: the centre's
-/// width or height is 0 or above 16383. 4: a frame's size differs from the centre's. 5: a plane does not
-/// fit the picture bytes. 6: the output is shorter than P. 7: a working slice is. With the values returned.
+/// width or height is 0 or above 16383. 4: a frame's size differs from the centre's. 29: a frame's cap exceeds 16.
+/// 5: a plane does not fit the picture bytes. 6: the output is shorter than P. 7: a working slice is. With the values
+/// returned.
 pub fn of_build(b: Build) -> (u64, Vec<u64>) {
     if b.centre >= b.frames.len() as u64 {
         return (1, vec![]);
@@ -31,6 +38,9 @@ pub fn of_build(b: Build) -> (u64, Vec<u64>) {
     }
     if let Some(other) = b.frames.iter().find(|frame| size(frame) != centre) {
         return (4, [size(other), centre].concat());
+    }
+    if let Some(index) = b.frames.iter().position(|frame| cap(frame) > MAX_CAP) {
+        return (29, vec![index as u64]);
     }
     if let Some(index) = b.frames.iter().position(|frame| planes(frame).iter().any(|p| p.end() > b.bytes.into())) {
         return (5, vec![index as u64]);
@@ -50,8 +60,13 @@ pub fn packed_size(width: u64, height: u64) -> u64 {
     width * height + 2 * width.div_ceil(2) * height.div_ceil(2)
 }
 
-fn size(frame: &[u32; 7]) -> [u64; 2] {
+fn size(frame: &Frame) -> [u64; 2] {
     [frame[0].into(), frame[1].into()]
+}
+
+/// The most that the frame weighs where it is not the centre.
+pub fn cap(frame: &Frame) -> u32 {
+    frame[7]
 }
 
 /// A plane in the picture bytes.
@@ -70,8 +85,8 @@ impl Part {
 }
 
 /// Y, U and V of a frame whose width and height are not 0.
-pub fn planes(frame: &[u32; 7]) -> [Part; 3] {
-    let [width, height, y, u, v, luma, chroma] = frame.map(u64::from);
+pub fn planes(frame: &Frame) -> [Part; 3] {
+    let [width, height, y, u, v, luma, chroma, _] = frame.map(u64::from);
     let (columns, rows) = (width.div_ceil(2), height.div_ceil(2));
     [
         Part { start: y, stride: luma, columns: width, rows: height },
@@ -216,6 +231,54 @@ mod tests {
         assert_eq!(of_picture(Picture { len: 2, source_len: 7, ..small }), 9);
         assert_eq!(of_picture(Picture { width: 16384, len: 2, ..small }), 8);
         assert_eq!(of_version(3, of_picture(Picture { width: 0, ..small })), 23);
+    }
+
+    // Four frames of 4 by 2, 12 bytes and 12 samples each, with these caps.
+    fn window(caps: [u32; 4]) -> Vec<Frame> {
+        caps.map(|cap| [4, 2, 0, 8, 10, 4, 2, cap]).to_vec()
+    }
+
+    fn refusal(frames: &[Frame], centre: u64) -> (u64, Vec<u64>) {
+        of_build(Build { bytes: 12, frames, centre, output: 12, sums: 12, weights: 12 })
+    }
+
+    #[test]
+    fn a_cap_above_16_is_refused_at_any_frame() {
+        assert_eq!(refusal(&window([16, 0, 1, 15]), 0), (0, vec![]));
+        for (at, centre) in (0..4).flat_map(|at| (0..4).map(move |centre| (at, centre))) {
+            for cap in [17, 272, 65552, 1 << 31, u32::MAX] {
+                let mut caps = [16; 4];
+                caps[at] = cap;
+                assert_eq!(refusal(&window(caps), centre), (29, vec![at as u64]));
+            }
+        }
+        assert_eq!(refusal(&window([16, 17, 16, u32::MAX]), 3), (29, vec![1]));
+        assert_eq!(refusal(&window([17; 4])[..1], 0), (29, vec![0]));
+    }
+
+    // Each beside a cap of 17 at frame 2: those before 29 speak of any frame first, those after it of none.
+    #[test]
+    fn a_cap_is_refused_between_4_and_5() {
+        let frames = window([16, 16, 17, 16]);
+        let with = |at: usize, k: usize, number: u32| {
+            let mut frames = frames.clone();
+            frames[at][k] = number;
+            refusal(&frames, 0)
+        };
+        assert_eq!(refusal(&frames, 4), (1, vec![]));
+        let many: Vec<Frame> = frames.iter().cycle().take(1025).copied().collect();
+        assert_eq!(refusal(&many, 0), (2, vec![]));
+        assert_eq!(with(0, 0, 16384), (3, vec![16384, 2]));
+        for at in 1..4 {
+            assert_eq!(with(at, 1, 3), (4, vec![4, 3, 4, 2]));
+        }
+        for at in 0..4 {
+            assert_eq!(with(at, 2, 5), (29, vec![2]));
+        }
+        let short = Build { bytes: 12, frames: &frames, centre: 0, output: 11, sums: 12, weights: 11 };
+        assert_eq!(of_build(short), (29, vec![2]));
+        assert_eq!(of_build(Build { frames: &frames[..2], ..short }), (6, vec![]));
+        assert_eq!(of_build(Build { frames: &frames[..2], output: 12, ..short }), (7, vec![]));
     }
 
     // Two macroblocks need 38 comparisons, the 1,048,576 of the largest picture 19,922,944.

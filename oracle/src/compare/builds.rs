@@ -1,4 +1,5 @@
-//! Frames as numbers, the builder's checks, and both builders.
+//! Frames as numbers, the builder's checks, and both builders. With a lower cap the answer of the originals' copy is
+//! expected, and the second implementation must give it too.
 
 use super::answer::{Answer, Pair, numbers};
 use super::content;
@@ -7,8 +8,9 @@ use super::input::{Input, Kind};
 use super::windows::{draw_numbers, draw_window};
 use crate::arnr::ArnrConfig;
 use crate::encoder::I420Frame;
-use crate::refusals::{self, Build, Part, planes};
-use crate::{counts, model};
+use crate::paper::denoiser::{Built, Window, build};
+use crate::refusals::{self, Build, Frame, MAX_CAP, NUMBERS_PER_FRAME, Part, cap, planes};
+use crate::{caps, model};
 
 #[rustfmt::skip]
 const BUILD: &[&str] = &[
@@ -19,7 +21,7 @@ const BUILD: &[&str] = &[
 pub const KINDS: [Kind; 5] = [
     Kind { name: "frame_count", weight: 5, fields: &[], draw: |r| (vec![], draw_numbers(r)), answers: answer_count },
     Kind { name: "frame_at", weight: 10, fields: &["g"], draw: |r| {
-               let g = r.pick(&[0, 1, 2, 3, 4, 1 << 32, 1 << 63, u64::MAX, u64::MAX / 7, u64::MAX / 7 + 1]);
+               let g = r.pick(&[0, 1, 2, 3, 4, 1 << 32, 1 << 63, u64::MAX, u64::MAX / 8, u64::MAX / 8 + 1]);
                (vec![g.into()], draw_numbers(r))
            }, answers: answer_at },
     Kind { name: "check_build", weight: 40, fields: BUILD, draw: draw_window, answers: answer_check },
@@ -29,7 +31,8 @@ pub const KINDS: [Kind; 5] = [
 
 fn answer_count(input: &Input) -> Pair {
     let lent = Guarded::holding(&input.list, input.salt);
-    let mut pair = numbers(&[model::frame_count(lent.slice()) as i64], &[(input.list.len() / 7) as i64]);
+    let mut pair =
+        numbers(&[model::frame_count(lent.slice()) as i64], &[(input.list.len() / NUMBERS_PER_FRAME) as i64]);
     pair.model = pair.model.constant("numbers", &lent);
     pair
 }
@@ -37,10 +40,10 @@ fn answer_count(input: &Input) -> Pair {
 fn answer_at(input: &Input) -> Pair {
     let lent = Guarded::holding(&input.list, input.salt);
     let got = model::frame_at(lent.slice(), input.size("g"));
-    let said = [got.width, got.height, got.y, got.u, got.v, got.luma_stride, got.chroma_stride].map(i64::from);
-    // whole frames only: numbers left over are not read
-    let frame = input.list.chunks_exact(7).nth(input.size("g"));
-    let wanted: [i64; 7] = std::array::from_fn(|k| frame.map_or(0, |numbers| numbers[k].into()));
+    let said = [got.width, got.height, got.y, got.u, got.v, got.luma_stride, got.chroma_stride, got.cap];
+    let said = said.map(i64::from);
+    // whole frames only: numbers left over are not read; a cap is handed out as it is
+    let wanted = input.frames().get(input.size("g")).map_or([0; NUMBERS_PER_FRAME], |frame| frame.map(i64::from));
     Pair { model: Answer::new(0, &said).constant("numbers", &lent), expected: Answer::new(0, &wanted) }
 }
 
@@ -53,8 +56,8 @@ fn bytes_of(input: &Input) -> Vec<u8> {
     content::bytes(content, seed, input.size("bytes_len"), input.size("pitch"))
 }
 
-// The refusal and the numbers of the answer in the header's order, as document 01 has them; no build is made.
-fn checked(input: &Input, frames: &[[u32; 7]]) -> (u64, [i64; 6]) {
+// The refusal and the numbers of the answer in the header's order, as the documents have them; no build is made.
+fn checked(input: &Input, frames: &[Frame]) -> (u64, [i64; 6]) {
     let [output, sums, weights] = lens(input).map(|n| n as u64);
     let (bytes, centre) = (input.get("bytes_len") as u64, input.get("centre") as u64);
     let (refusal, values) = refusals::of_build(Build { bytes, frames, centre, output, sums, weights });
@@ -63,7 +66,7 @@ fn checked(input: &Input, frames: &[[u32; 7]]) -> (u64, [i64; 6]) {
         0 => [frames[centre as usize][0].into(), frames[centre as usize][1].into(), 0, 0, 0, 0],
         3 => [v(0), v(1), 0, 0, 0, 0],
         4 => [v(2), v(3), 0, v(0), v(1), 0],
-        5 => [0, 0, 0, 0, 0, v(0)],
+        5 | 29 => [0, 0, 0, 0, 0, v(0)],
         _ => [0; 6],
     };
     (refusal, said)
@@ -121,7 +124,7 @@ fn answer_numbers(input: &Input) -> Pair {
 }
 
 fn answer_records(input: &Input) -> Pair {
-    let record = |[width, height, y, u, v, luma_stride, chroma_stride]: [u32; 7]| model::Frame {
+    let record = |[width, height, y, u, v, luma_stride, chroma_stride, cap]: Frame| model::Frame {
         width,
         height,
         y,
@@ -129,6 +132,7 @@ fn answer_records(input: &Input) -> Pair {
         v,
         luma_stride,
         chroma_stride,
+        cap,
     };
     let records: Vec<model::Frame> = input.frames().into_iter().map(record).collect();
     let bytes = Guarded::holding(&bytes_of(input), input.salt);
@@ -140,29 +144,49 @@ fn answer_records(input: &Input) -> Pair {
     Pair { model, expected: built(input, bytes.slice()) }
 }
 
-// What a builder is expected to say and leave: the original's picture, sums and weights in the first entries.
+/// Whether the share of a frame beside the centre has a cap below 16, of a window whose sums are written.
+pub fn caps_a_share(input: &Input) -> bool {
+    let lower = |(g, frame): (usize, &Frame)| g != input.size("centre") && cap(frame) < MAX_CAP;
+    input.get("strength") > 0 && input.frames().iter().enumerate().any(lower)
+}
+
+// What a builder is expected to say and leave: the picture, sums and weights of the original, or with a lower cap of its
+// copy, in the first entries.
 fn built(input: &Input, bytes: &[u8]) -> Answer {
     let frames = input.frames();
     let (refusal, mut wanted) = checked(input, &frames);
     let before = Slices::of(input);
     let (mut output, mut sums) = (before.output.slice().to_vec(), before.sums.slice().to_vec());
     let mut weights = before.weights.slice().to_vec();
+    let mut faults = Vec::new();
     if refusal == 0 {
-        let part = |p: &Part| &bytes[p.start as usize..p.end() as usize];
-        let picture = |f: &[u32; 7]| {
-            let [y, u, v] = planes(f);
-            let (y_stride, uv_stride) = (y.stride as usize, u.stride as usize);
-            let [y, u, v] = [part(&y), part(&u), part(&v)];
-            I420Frame { width: f[0], height: f[1], y, u, v, y_stride, uv_stride }
-        };
-        let pictures: Vec<I420Frame> = frames.iter().map(picture).collect();
-        let config = ArnrConfig::default().with_strength(input.get("strength") as u8);
-        let got = counts::build(&pictures, input.size("centre"), &config).expect("an accepted window");
-        let packed = [&got.picture.y[..], &got.picture.u, &got.picture.v].concat();
-        output[..packed.len()].copy_from_slice(&packed);
+        let window =
+            Window { bytes, frames: &frames, centre: input.size("centre"), strength: input.get("strength") as u8 };
+        let got = by_the_originals(&window);
+        if frames.iter().any(|frame| cap(frame) < MAX_CAP) && got != build(&window) {
+            faults.push("the second implementation builds otherwise".to_string());
+        }
+        output[..got.output.len()].copy_from_slice(&got.output);
         sums[..got.sums.len()].copy_from_slice(&got.sums);
         weights[..got.weights.len()].copy_from_slice(&got.weights);
         wanted[2] = got.accepted as i64;
     }
-    Answer::new(refusal, &wanted).holding(&output).holding(&sums).holding(&weights)
+    Answer { faults, ..Answer::new(refusal, &wanted).holding(&output).holding(&sums).holding(&weights) }
+}
+
+// An accepted window's build.
+fn by_the_originals(window: &Window) -> Built {
+    let part = |p: &Part| &window.bytes[p.start as usize..p.end() as usize];
+    let picture = |f: &Frame| {
+        let [y, u, v] = planes(f);
+        let (y_stride, uv_stride) = (y.stride as usize, u.stride as usize);
+        let [y, u, v] = [part(&y), part(&u), part(&v)];
+        I420Frame { width: f[0], height: f[1], y, u, v, y_stride, uv_stride }
+    };
+    let pictures: Vec<I420Frame> = window.frames.iter().map(picture).collect();
+    let caps: Vec<u32> = window.frames.iter().map(cap).collect();
+    let config = ArnrConfig::default().with_strength(window.strength);
+    let got = caps::build(&pictures, &caps, window.centre, &config).expect("an accepted window");
+    let output = [&got.picture.y[..], &got.picture.u, &got.picture.v].concat();
+    Built { output, sums: got.sums, weights: got.weights, accepted: got.accepted }
 }

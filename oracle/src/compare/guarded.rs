@@ -30,8 +30,8 @@ impl Entry for u32 {
 
 impl Entry for Frame {
     fn noise(random: &mut Random) -> Self {
-        let [width, height, y, u, v, luma_stride, chroma_stride] = std::array::from_fn(|_| random.next() as u32);
-        Frame { width, height, y, u, v, luma_stride, chroma_stride }
+        let [width, height, y, u, v, luma_stride, chroma_stride, cap] = std::array::from_fn(|_| random.next() as u32);
+        Frame { width, height, y, u, v, luma_stride, chroma_stride, cap }
     }
 }
 

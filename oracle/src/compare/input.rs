@@ -3,6 +3,7 @@
 
 use super::answer::Pair;
 use crate::random::Random;
+use crate::refusals::{Frame, MAX_CAP, NUMBERS_PER_FRAME};
 use std::fmt;
 
 const STEPS: usize = 7;
@@ -54,20 +55,20 @@ impl Input {
         self.get(name) as usize
     }
 
-    /// The frames of seven numbers; numbers left over are not read.
-    pub fn frames(&self) -> Vec<[u32; 7]> {
-        self.list.chunks_exact(7).map(|f| f.try_into().expect("seven numbers")).collect()
+    /// The frames of eight numbers; numbers left over are not read.
+    pub fn frames(&self) -> Vec<Frame> {
+        self.list.chunks_exact(NUMBERS_PER_FRAME).map(|f| f.try_into().expect("eight numbers")).collect()
     }
 
     // Inputs that are smaller by one step, the greatest steps first.
     fn smaller(&self) -> Vec<Input> {
         let mut all = Vec::new();
-        let frames = self.list.len() / 7;
+        let frames = self.list.len() / NUMBERS_PER_FRAME;
         let mut run = frames.div_ceil(2);
         while run > 0 {
             for from in (0..frames).step_by(run) {
                 let mut list = self.list.clone();
-                list.drain(from * 7..((from + run) * 7).min(list.len()));
+                list.drain(from * NUMBERS_PER_FRAME..((from + run) * NUMBERS_PER_FRAME).min(list.len()));
                 all.push(Input { list, ..self.clone() });
             }
             run /= 2;
@@ -85,17 +86,18 @@ impl Input {
     // The same number of all frames at once, then, of a short list, each by itself.
     fn smaller_frames(&self) -> Vec<Input> {
         let mut all = Vec::new();
-        for k in 0..self.list.len().min(7) {
+        for k in 0..self.list.len().min(NUMBERS_PER_FRAME) {
             for step in 0..STEPS {
-                let lower = |(i, &v): (usize, &u32)| if i % 7 == k { steps(v.into())[step] as u32 } else { v };
-                let list = self.list.iter().enumerate().map(lower).collect();
+                let plainer =
+                    |(i, &v): (usize, &u32)| if i % NUMBERS_PER_FRAME == k { frame_steps(i, v)[step] } else { v };
+                let list = self.list.iter().enumerate().map(plainer).collect();
                 all.push(Input { list, ..self.clone() });
             }
         }
-        if self.list.len() <= 70 {
+        if self.list.len() <= 10 * NUMBERS_PER_FRAME {
             for (k, step) in (0..self.list.len()).flat_map(|k| (0..STEPS).map(move |step| (k, step))) {
                 let mut next = self.clone();
-                next.list[k] = steps(next.list[k].into())[step] as u32;
+                next.list[k] = frame_steps(k, next.list[k])[step];
                 all.push(next);
             }
         }
@@ -123,14 +125,57 @@ fn steps(v: i128) -> [i128; STEPS] {
     [0, v / 2, v - v / 4, v - v / 32, v - v / 1024, v - v / 65536, v - v.signum()]
 }
 
+// Of a number in the list: toward 0, a cap toward 16, where it does nothing.
+fn frame_steps(place: usize, v: u32) -> [u32; STEPS] {
+    let plain = if place % NUMBERS_PER_FRAME == NUMBERS_PER_FRAME - 1 { MAX_CAP.into() } else { 0 };
+    steps(i128::from(v) - plain).map(|step| (plain + step) as u32)
+}
+
 impl fmt::Display for Input {
     fn fmt(&self, f: &mut fmt::Formatter) -> fmt::Result {
         let numbers: Vec<String> =
             self.kind.fields.iter().zip(&self.numbers).map(|(field, v)| format!("{field} {v}")).collect();
         write!(f, "{}: {}", self.kind.name, numbers.join(", "))?;
-        for frame in self.list.chunks(7) {
+        for frame in self.list.chunks(NUMBERS_PER_FRAME) {
             write!(f, "\n  frame {frame:?}")?;
         }
         Ok(())
+    }
+}
+
+#[cfg(test)]
+mod tests {
+    use super::*;
+
+    #[test]
+    fn a_cap_goes_toward_16_and_the_rest_toward_0() {
+        let ends = |place: usize, v: u32| {
+            let mut ways: Vec<u32> = frame_steps(place, v).into_iter().filter(|&w| w != v).collect();
+            ways.sort();
+            (ways.first().copied(), ways.last().copied())
+        };
+        assert_eq!([6, 8].map(|place| ends(place, 9)), [(Some(0), Some(8)); 2]);
+        assert_eq!([7, 15].map(|place| ends(place, 9)), [(Some(10), Some(16)); 2]);
+        assert_eq!([7, 15].map(|place| ends(place, 0)), [(Some(1), Some(16)); 2]);
+        assert_eq!(ends(7, u32::MAX), (Some(16), Some(u32::MAX - 1)));
+        assert_eq!((ends(7, 17), ends(7, 16), ends(6, 0)), ((Some(16), Some(16)), (None, None), (None, None)));
+    }
+
+    // Of three frames with five numbers left over: frames are taken away whole, and one number changes at a time, in one
+    // frame or in each.
+    #[test]
+    fn a_list_is_made_smaller_by_frames() {
+        static KIND: Kind =
+            Kind { name: "", weight: 1, fields: &[], draw: |_| (vec![], vec![]), answers: |_| unreachable!() };
+        let list: Vec<u32> = (100..100 + 3 * 8 + 5).collect();
+        let input = Input { kind: &KIND, numbers: vec![], list: list.clone(), salt: 0 };
+        let smaller: Vec<Vec<u32>> = input.smaller().into_iter().map(|next| next.list).collect();
+        let (shorter, same_length): (Vec<_>, Vec<_>) = smaller.into_iter().partition(|next| next.len() < list.len());
+        let without = |from: usize, to: usize| [&list[..from], &list[to..]].concat();
+        assert_eq!(shorter, [without(0, 16), without(16, 29), without(0, 8), without(8, 16), without(16, 24)]);
+        let changed = |next: &Vec<u32>| (0..list.len()).filter(|&i| next[i] != list[i]).collect::<Vec<usize>>();
+        let places: Vec<Vec<usize>> = same_length.iter().map(changed).collect();
+        assert!(places.iter().all(|all| all.iter().all(|i| i % 8 == all[0] % 8)));
+        assert!([vec![7, 15, 23], vec![7], vec![15], vec![0, 8, 16, 24], vec![28]].iter().all(|p| places.contains(p)));
     }
 }

@@ -1,8 +1,8 @@
 //! The model beside the originals, at scale: inputs drawn from a seed, every answer compared.
 //!
 //! Where a call is refused, the expected number and values come from refusals.rs, and every lent slice must
-//! hold what it held; elsewhere the originals' answer decides, with the counts of counts.rs, and at a version that of
-//! versions.rs. A whole picture's is that of their single calls, within an allowance with an account kept beside them.
+//! hold what it held; elsewhere the originals' answer decides, with the counts of counts.rs, at a version that of
+//! versions.rs, and with a lower cap that of caps.rs. A whole picture's is that of their single calls, within an allowance with an account kept beside them.
 
 mod allowances;
 mod answer;
@@ -34,22 +34,22 @@ struct Run {
 }
 
 /// A wrong expectation, so that the report of a difference can be tried: of what a call says, the number at a place is
-/// expected one less where a number of the input is above another. Places past these numbers are the slices, of which
-/// the first entry is.
+/// expected one less where the input is so. Places past these numbers are the slices, of which the first entry is.
 struct Plant {
     word: &'static str,
     call: &'static str,
-    number: &'static str,
-    above: i128,
+    when: fn(&Input) -> bool,
     place: usize,
 }
 
-static PLANTS: [Plant; 5] = [
-    Plant { word: "--plant", call: "small_diamond_search_luma", number: "width", above: 20, place: 2 },
-    Plant { word: "--plant-rows", call: "block_sad_16x16_up_to", number: "ceiling", above: 20, place: 1 },
-    Plant { word: "--plant-version", call: "quarter_pixel_refine_luma", number: "version", above: 0, place: 2 },
-    Plant { word: "--plant-picture", call: "search_picture_luma", number: "width", above: 20, place: 3 },
-    Plant { word: "--plant-count", call: "search_picture_luma_within", number: "allowance", above: 60, place: 1 },
+#[rustfmt::skip]
+static PLANTS: [Plant; 6] = [
+    Plant { word: "--plant", call: "small_diamond_search_luma", when: |i| i.get("width") > 20, place: 2 },
+    Plant { word: "--plant-rows", call: "block_sad_16x16_up_to", when: |i| i.get("ceiling") > 20, place: 1 },
+    Plant { word: "--plant-version", call: "quarter_pixel_refine_luma", when: |i| i.get("version") > 0, place: 2 },
+    Plant { word: "--plant-picture", call: "search_picture_luma", when: |i| i.get("width") > 20, place: 3 },
+    Plant { word: "--plant-count", call: "search_picture_luma_within", when: |i| i.get("allowance") > 60, place: 1 },
+    Plant { word: "--plant-cap", call: "build_from_numbers", when: builds::caps_a_share, place: 7 },
 ];
 
 /// Runs the comparison; whether every answer was the same. None where the words are not understood.
@@ -111,7 +111,7 @@ fn answers(input: &Input, plant: Option<&Plant>) -> Pair {
         Pair { model: Answer::default(), expected: Answer { faults, ..Answer::default() } }
     });
     let accepted = pair.expected.refusal == 0;
-    let planted = plant.filter(|p| p.call == input.kind.name && accepted && input.get(p.number) > p.above);
+    let planted = plant.filter(|p| p.call == input.kind.name && accepted && (p.when)(input));
     if let Some(plant) = planted {
         let Answer { said, slices, .. } = &mut pair.expected;
         *said.iter_mut().chain(slices.iter_mut().map(|slice| &mut slice[0])).nth(plant.place).expect("a place") -= 1;
@@ -163,7 +163,7 @@ impl Tally {
         for (kind, [accepted, refused]) in self.kinds.iter().zip(&self.counts) {
             println!("  {:<28} {accepted:>7} accepted {refused:>7} refused", kind.name);
         }
-        let numbers = (1..16).chain([23, 30]);
+        let numbers = (1..16).chain([23, 29, 30]);
         let by_number: Vec<String> = numbers.map(|number| format!("{number}: {}", self.refused[number])).collect();
         println!("  refusals by number: {}", by_number.join(", "));
     }

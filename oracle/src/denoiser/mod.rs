@@ -4,7 +4,7 @@
 //! `pictures` is laid out in pictures.rs; the picture bytes of a case are its first ones. `cases` is a file of
 //! records of 18 numbers (see records.rs). Counted from 0:
 //!
-//! kinds 1 to 5, the builder, by what the case is for (see `KINDS`): [1] refusal or 0, [2] length of the picture
+//! kinds 1 to 5 and 7, the builder, by what the case is for (see `KINDS`): [1] refusal or 0, [2] length of the picture
 //!     bytes, [3] numbers stored, [4] numbers given, which are the stored ones again and again, [5] centre,
 //!     [6] strength, [7] how the configuration is made, [8] length of the output, [9] of the sums, [10] of the
 //!     weights, [11] bytes written to the output, [12] entries written to the sums and to the weights,
@@ -13,31 +13,32 @@
 //!     the weights, three bytes each; numbers have the least byte first
 //! kind 6, ArnrConfig: [1] the strength stored, [6] the strength given, [7] how the configuration is made
 //!
+//! A frame is eight numbers; its cap is 16 in all cases but those of kind 7 and those of refusal 29.
 //! A configuration is made 0 by with_strength on the default one, 1 by new, 2 by default.
 //! What a call does not write, the replay expects to find as it was.
 
+mod capped;
 mod pictures;
 mod refused;
 mod windows;
 
 use crate::arnr::ArnrConfig;
-use crate::counts;
 use crate::encoder::{EncodeError, I420Frame};
 use crate::paper::denoiser::{Built, Window, build};
 use crate::records::Records;
-use crate::refusals::{self, Build, packed_size, planes};
+use crate::refusals::{self, Build, Frame, NUMBERS_PER_FRAME, cap, packed_size, planes};
+use crate::{caps, counts};
 use std::path::Path;
 
 /// What the cases of each kind are for, from 1 on, in the order in which the replay prints them.
-const KINDS: [&str; 6] = ["no frames", "one frame", "strength 0", "windows", "refusals", "configurations"];
+const KINDS: [&str; 7] = ["no frames", "one frame", "strength 0", "windows", "refusals", "configurations", "caps"];
+const CONFIGURATIONS: u64 = 6;
+const CAPS: u64 = 7;
 
 /// What the replay has room for: entries of each lent slice, numbers, and bytes of a payload.
 const MOST_LENT: usize = 40000;
-const MOST_NUMBERS: usize = 7200;
+const MOST_NUMBERS: usize = 8300;
 const MOST_PAYLOAD: usize = 240000;
-
-/// Seven numbers.
-type Frame = [u32; 7];
 
 #[derive(Clone)]
 struct Case {
@@ -61,6 +62,7 @@ pub fn write(folder: &Path) -> std::io::Result<()> {
     let pictures = pictures::all();
     let mut writer = Writer { pictures: &pictures, records: Records::new(18) };
     windows::add(&mut writer);
+    capped::add(&mut writer);
     refused::add(&mut writer);
     add_configurations(&mut writer.records);
     std::fs::create_dir_all(folder.join("data"))?;
@@ -71,11 +73,12 @@ pub fn write(folder: &Path) -> std::io::Result<()> {
 
 fn printed(records: &Records) -> String {
     let line = |name: &str, cases: u64| format!("{name}: {cases} compared, 0 differ");
-    let cases: Vec<u64> = (1..=6).map(|kind| records.of_kind(kind)).collect();
+    let cases: Vec<u64> = (1..).take(KINDS.len()).map(|kind| records.of_kind(kind)).collect();
     let kinds: String = KINDS.iter().zip(&cases).map(|(name, &cases)| line(name, cases) + "\n").collect();
-    let builds: u64 = cases[..5].iter().sum();
+    let all: u64 = cases.iter().sum();
+    let builds = all - records.of_kind(CONFIGURATIONS);
     let both = format!("; {builds} builds were run in both forms, over numbers and over records\n");
-    kinds + &line("all", cases.iter().sum()) + &both
+    kinds + &line("all", all) + &both
 }
 
 fn configuration(made: u64, strength: u8) -> ArnrConfig {
@@ -92,7 +95,7 @@ fn add_configurations(records: &mut Records) {
             let stored = configuration(made, strength).strength;
             let expected = [strength, strength.min(6), 3][made as usize];
             assert_eq!(stored, expected, "configuration {made} of {strength}");
-            records.add(6, stored.into(), &[0, 0, 0, 0, strength.into(), made], &[]);
+            records.add(CONFIGURATIONS, stored.into(), &[0, 0, 0, 0, strength.into(), made], &[]);
         }
     }
 }
@@ -120,7 +123,7 @@ impl Case {
 
     // Numbers left over are not read.
     fn frames(&self) -> Vec<Frame> {
-        self.numbers().chunks_exact(7).map(|f| f.try_into().unwrap()).collect()
+        self.numbers().chunks_exact(NUMBERS_PER_FRAME).map(|f| f.try_into().unwrap()).collect()
     }
 }
 
@@ -173,7 +176,8 @@ impl Writer<'_> {
         found
     }
 
-    // What an accepted build leaves, from the original, held against document 01's rules.
+    // What an accepted build leaves, from the original, or with a lower cap from its copy, held against document 01's
+    // rules with request 7's caps.
     fn built(&self, case: &Case, frames: &[Frame]) -> Built {
         let bytes = &self.pictures[..case.bytes];
         let part = |p: &refusals::Part| &bytes[p.start as usize..p.end() as usize];
@@ -187,7 +191,8 @@ impl Writer<'_> {
             })
             .collect();
         let config = configuration(case.made, case.strength);
-        let got = counts::build(&pictures, case.centre as usize, &config).expect("an accepted window");
+        let caps: Vec<u32> = frames.iter().map(cap).collect();
+        let got = caps::build(&pictures, &caps, case.centre as usize, &config).expect("an accepted window");
         let output = [&got.picture.y[..], &got.picture.u, &got.picture.v].concat();
         let got = Built { output, sums: got.sums, weights: got.weights, accepted: got.accepted };
         let window = Window { bytes, frames, centre: case.centre as usize, strength: config.strength };

@@ -3,6 +3,7 @@
 
 use super::Frame;
 use crate::random::Random;
+use crate::refusals::MAX_CAP;
 
 /// Smooth, 160 by 96, and the same with noise.
 const TEXTURE: usize = 0;
@@ -71,10 +72,16 @@ fn smooth((width, height): (usize, usize), n: usize, times: i64, random: &mut Ra
     (0..width * height).map(|i| stretched(mean(i / width, i % width))).collect()
 }
 
-/// A frame from its size, the starts of its planes and its strides.
+/// A frame from its size, the starts of its planes and its strides; its cap is 16, as that of all frames below.
 pub fn frame((width, height): (u32, u32), starts: [usize; 3], strides: (usize, usize)) -> Frame {
     let [y, u, v] = starts.map(|n| n as u32);
-    [width, height, y, u, v, strides.0 as u32, strides.1 as u32]
+    [width, height, y, u, v, strides.0 as u32, strides.1 as u32, MAX_CAP]
+}
+
+/// The same frame with another cap.
+pub fn capped(frame: Frame, cap: u32) -> Frame {
+    let [width, height, y, u, v, luma_stride, chroma_stride, _] = frame;
+    [width, height, y, u, v, luma_stride, chroma_stride, cap]
 }
 
 /// The texture from (40 + x, 30 + y) on; U from (20, 50) and V from (90, 20), both moved by half.

@@ -1,6 +1,6 @@
-//! Cases at the edge of each refusal, 1 to 7, and with several at once.
+//! Cases at the edge of each refusal, 1 to 7 and 29, and with several at once.
 
-use super::pictures::{LEN, frame, noise, texture};
+use super::pictures::{LEN, capped, frame, noise, texture};
 use super::{Case, Frame, Writer};
 
 pub fn add(writer: &mut Writer) {
@@ -10,6 +10,8 @@ pub fn add(writer: &mut Writer) {
     add_other_sizes(writer);
     add_planes(writer);
     add_lent(writer);
+    add_caps(writer);
+    add_caps_beside(writer);
     add_together(writer);
 }
 
@@ -26,13 +28,13 @@ fn case(frames: &[Frame], centre: u64, strength: u8) -> Case {
 fn add_centres(writer: &mut Writer) {
     for centre in [2, 3, 4, 1 << 32, (1 << 32) + 1, u64::MAX] {
         writer.put(&case(&three((5, 4)), centre, 3));
-        writer.put(&Case { given: 3 * 7 - 1, ..case(&three((5, 4)), centre, 0) });
+        writer.put(&Case { given: 3 * 8 - 1, ..case(&three((5, 4)), centre, 0) });
     }
 }
 
-// 2: 1025 frames and more numbers; 1024 and six numbers are accepted.
+// 2: 1025 frames and more numbers; 1024 and seven numbers are accepted.
 fn add_counts(writer: &mut Writer) {
-    for given in [1024 * 7, 1025 * 7 - 1, 1025 * 7, 1025 * 7 + 6] {
+    for given in [1024 * 8, 1025 * 8 - 1, 1025 * 8, 1025 * 8 + 7] {
         for (centre, strength) in [(0, 3), (1023, 0), (1024, 3), (1025, 3)] {
             writer.put(&Case { given, ..case(&three((3, 3)), centre, strength) });
         }
@@ -123,10 +125,81 @@ fn add_lent(writer: &mut Writer) {
     }
 }
 
-// Each set of refusals at once: the earliest number is the answer.
+// Three frames with these caps at these frames, else 16.
+fn with_caps(caps: &[(usize, u32)]) -> Vec<Frame> {
+    let mut frames = three((5, 4));
+    for &(at, cap) in caps {
+        frames[at] = capped(frames[at], cap);
+    }
+    frames
+}
+
+// 29: caps of 16, which is accepted, and above it, at each frame and each centre, where the centre is only cropped too;
+// caps that are 16 in their lowest byte or two; the first of several; a cap that lies past the numbers given.
+fn add_caps(writer: &mut Writer) {
+    for cap in [16, 17, u32::MAX] {
+        for (at, centre) in (0..9).map(|k| (k / 3, k as u64 % 3)) {
+            for strength in [0, 3] {
+                writer.put(&case(&with_caps(&[(at, cap)]), centre, strength));
+            }
+        }
+        for strength in [0, 6] {
+            writer.put(&case(&[capped(texture((5, 4), (0, 0), false), cap)], 0, strength));
+        }
+    }
+    for (k, cap) in [18, 31, 32, 255, 256, 272, 65552, 1 << 24, 1 << 31, (1 << 31) + 16].into_iter().enumerate() {
+        writer.put(&case(&with_caps(&[(k % 3, cap)]), k as u64 / 3 % 3, k as u8 % 4));
+    }
+    let several: [&[(usize, u32)]; 5] = [
+        &[(0, 17), (2, 17)],
+        &[(1, 17), (2, u32::MAX)],
+        &[(0, 0), (1, u32::MAX), (2, 17)],
+        &[(0, u32::MAX), (1, 17), (2, 17)],
+        &[(0, 15), (1, 0), (2, 17)],
+    ];
+    for (caps, centre) in several.into_iter().flat_map(|caps| (0..3).map(move |centre| (caps, centre))) {
+        writer.put(&case(&with_caps(caps), centre, 2));
+    }
+    for given in [3 * 8 - 1, 3 * 8, 3 * 8 + 7] {
+        writer.put(&Case { given, ..case(&with_caps(&[(2, 17)]), 1, 3) });
+    }
+    let mut many: Vec<Frame> = (0..1024).map(|g| texture((3, 3), (g % 5, g % 3), false)).collect();
+    many[1023] = capped(many[1023], 17);
+    writer.put(&case(&many, 5, 1));
+}
+
+// 29 at one frame, and another refusal of the same window: 4 and 5 at each frame, before it, after it and at the same;
+// and 1, 2, 3, 6 and 7.
+fn add_caps_beside(writer: &mut Writer) {
+    for cap in [17, u32::MAX] {
+        for (at, other) in (0..9).map(|k| (k / 3, k % 3)) {
+            let strength = [3, 0][(at + other) % 2];
+            let mut frames = with_caps(&[(at, cap)]);
+            frames[other][4] = LEN as u32;
+            writer.put(&case(&frames, 1, strength));
+            let mut frames = with_caps(&[(at, cap)]);
+            frames[other][1] = 5;
+            writer.put(&case(&frames, (other as u64 + 1) % 3, strength));
+        }
+        for at in 0..3 {
+            let frames = with_caps(&[(at, cap)]);
+            writer.put(&case(&frames, 3, 3));
+            writer.put(&Case { given: 1025 * 8, ..case(&frames, 1, 3) });
+            for lent in [[31, 32, 32], [32, 31, 32], [32, 32, 31], [0, 0, 0]] {
+                writer.put(&Case { lent, ..case(&frames, 1, 3) });
+            }
+            let mut frames = frames;
+            frames[1][0] = 16384;
+            writer.put(&case(&frames, 1, 3));
+        }
+    }
+}
+
+// Each set of refusals at once, those without 29 first: the earliest is the answer.
 fn add_together(writer: &mut Writer) {
-    for bits in 1..128 {
+    for bits in 1..256 {
         let is = |number: i32| bits >> (number - 1) & 1 == 1;
+        let cap_too_high = is(8);
         let size = if is(3) { (5, 16384) } else { (5, 4) };
         let mut frames = [frame(size, [0; 3], (160, 160)); 5];
         if is(4) {
@@ -135,9 +208,13 @@ fn add_together(writer: &mut Writer) {
         if is(5) {
             frames[if is(4) { 1 } else { 4 }][4] = LEN as u32;
         }
-        let given = if is(2) { 1025 * 7 } else { 5 * 7 };
-        let centre = if is(1) { given as u64 / 7 } else { 2 };
+        if cap_too_high {
+            let at = [0, 2, 4][bits as usize % 3];
+            frames[at] = capped(frames[at], 17);
+        }
+        let given = if is(2) { 1025 * 8 } else { 5 * 8 };
+        let centre = if is(1) { given as u64 / 8 } else { 2 };
         let lent = [if is(6) { 31 } else { 40 }, 40, if is(7) { 31 } else { 40 }];
-        writer.put(&Case { given, lent, ..case(&frames, centre, bits as u8 % 3) });
+        writer.put(&Case { given, lent, ..case(&frames, centre, (bits % 128) as u8 % 3) });
     }
 }

@@ -1,11 +1,11 @@
-//! Cases that are accepted, but for the empty window, which stands first.
+//! Cases that are accepted, but for the empty window, which stands first. Every cap is 16.
 
 use super::pictures::{CUT_SIZES, LEN, checkers, cut, flat, frame, mirror, noise, ramp, texture};
 use super::{Case, Frame, Writer};
 use crate::random::Random;
 
 const SIZES: [u32; 8] = [1, 2, 15, 16, 17, 31, 32, 33];
-const STRENGTHS: [u8; 8] = [1, 2, 3, 4, 5, 6, 7, 255];
+pub const STRENGTHS: [u8; 8] = [1, 2, 3, 4, 5, 6, 7, 255];
 
 pub fn add(writer: &mut Writer) {
     add_empty(writer);
@@ -22,10 +22,10 @@ pub fn add(writer: &mut Writer) {
     add_long(writer);
 }
 
-// No frames: fewer than seven numbers, whatever else is passed.
+// No frames: fewer than eight numbers, whatever else is passed.
 fn add_empty(writer: &mut Writer) {
     let frame = noise((5, 3), 0);
-    for given in 0..7 {
+    for given in 0..8 {
         for (k, centre) in [0, 1, u64::MAX].into_iter().enumerate() {
             let case = Case::new(1, &[frame], centre, [3, 0, 255][(given + k) % 3]);
             let (bytes, lent) = [(0, [0; 3]), (LEN, [0; 3]), (LEN, [40; 3])][(given + 2 * k) % 3];
@@ -41,9 +41,9 @@ fn size(i: usize) -> (u32, u32) {
 // One frame, at strengths 0 and 6: the centre is cropped; numbers left over are not read.
 fn add_single(writer: &mut Writer) {
     for i in (0..64).step_by(3) {
-        let frames = [picture(size(i), i % 6, i), [7; 7]];
+        let frames = [picture(size(i), i % 6, i), [7; 8]];
         let case = Case::new(2, &frames, 0, [0, 1, 3, 6, 7, 255][i % 6]);
-        writer.put(&Case { given: 7 + i % 7, ..case.longer([i % 5, i % 3, i % 4 * 20]) });
+        writer.put(&Case { given: 8 + i % 8, ..case.longer([i % 5, i % 3, i % 4 * 20]) });
     }
 }
 
@@ -56,8 +56,8 @@ fn add_strength_0(writer: &mut Writer) {
     }
 }
 
-// A frame of a content: moved texture, noise, ramps, flats, checkers, symmetric.
-fn picture(size: (u32, u32), content: usize, i: usize) -> Frame {
+/// A frame of a content: moved texture, noise, ramps, flats, checkers, symmetric.
+pub fn picture(size: (u32, u32), content: usize, i: usize) -> Frame {
     let step = |k: usize| (i * k % 31) as i32 - 15;
     match content {
         0 => texture(size, (step(7), step(11)), i % 2 == 1),
@@ -166,20 +166,20 @@ fn add_excluded(writer: &mut Writer) {
     }
 }
 
-// 1024 frames, the last one with six numbers of the next; all white and all the same: the largest sums.
+// 1024 frames, the last one with seven numbers of the next; all white and all the same: the largest sums.
 fn add_many_frames(writer: &mut Writer) {
     let size = (3, 2);
     let some: Vec<Frame> = (0..8).map(|g| texture(size, (g, 3 - g), g % 2 == 1)).collect();
-    for (centre, given) in [(0, 1024 * 7), (513, 1024 * 7), (1023, 1025 * 7 - 1)] {
+    for (centre, given) in [(0, 1024 * 8), (513, 1024 * 8), (1023, 1025 * 8 - 1)] {
         writer.put(&Case { given, ..Case::new(4, &some, centre % 8, 6) }.at(centre));
     }
     let white = Case::new(4, &[flat((2, 2), 5, 5)], 0, 255);
-    writer.put(&Case { given: 1024 * 7, ..white }.at(700));
+    writer.put(&Case { given: 1024 * 8, ..white }.at(700));
 }
 
 impl Case {
-    // The same with another centre of the same size.
-    fn at(self, centre: u64) -> Case {
+    /// The same with another centre of the same size.
+    pub fn at(self, centre: u64) -> Case {
         Case { centre, ..self }
     }
 }

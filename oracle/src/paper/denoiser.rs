@@ -1,13 +1,14 @@
-//! Document 01's rules for the denoiser, sample by sample: no early exit, no in-bounds path, no running sums.
+//! Document 01's rules for the denoiser with request 7's caps, sample by sample: no early exit, no in-bounds path, no
+//! running sums.
 
 use super::Plane;
 use super::search::{NO_CEILING, sad};
-use crate::refusals::{packed_size, planes};
+use crate::refusals::{Frame, cap, packed_size, planes};
 
 /// An accepted window.
 pub struct Window<'a> {
     pub bytes: &'a [u8],
-    pub frames: &'a [[u32; 7]],
+    pub frames: &'a [Frame],
     pub centre: usize,
     pub strength: u8,
 }
@@ -79,11 +80,13 @@ impl Window<'_> {
         })
     }
 
-    // The weight of frame g's displaced sample, and that sample.
+    // The weight of frame g's displaced sample, and that sample. The cap bounds the weight alone: whether the block is
+    // accepted, and where the sample lies, was found without it.
     fn share(&self, g: usize, k: usize, m: &Match, x: i64, y: i64, c: u8) -> (u32, u8) {
         let (dx, dy) = if k == 0 { m.shift } else { (m.shift.0 / 2, m.shift.1 / 2) };
         let displaced = self.planes(g)[k].sample(x + dx, y + dy);
-        (if m.accepted { weight(self.strength, displaced.abs_diff(c)) } else { 0 }, displaced)
+        let weight = weight(self.strength, displaced.abs_diff(c)).min(cap(&self.frames[g]));
+        (if m.accepted { weight } else { 0 }, displaced)
     }
 }
 
@@ -145,4 +148,49 @@ fn found(centre: &Plane, other: &Plane, index: usize) -> Match {
     let source = block.samples(centre, (0, 0));
     let (shift, last) = block_search(|shift, _| sad(&source, &block.samples(other, shift)));
     Match { shift, accepted: block.accepts(last) }
+}
+
+#[cfg(test)]
+mod tests {
+    use super::*;
+
+    // One sample of each level, all planes the same, with these caps; the first is the centre.
+    fn built(levels: &[(u8, u32)], strength: u8) -> Built {
+        let bytes: Vec<u8> = levels.iter().map(|l| l.0).collect();
+        let frame = |(g, l): (usize, &(u8, u32))| [1, 1, g as u32, g as u32, g as u32, 1, 1, l.1];
+        let frames: Vec<Frame> = levels.iter().enumerate().map(frame).collect();
+        build(&Window { bytes: &bytes, frames: &frames, centre: 0, strength })
+    }
+
+    fn of(total: u32, sum: u32, sample: u8, accepted: u64) -> Built {
+        Built { output: vec![sample; 3], sums: vec![sum; 3], weights: vec![total; 3], accepted }
+    }
+
+    // Centre 100, one other 104, strength 1: the weight is 8.
+    #[test]
+    fn a_share_is_the_lesser_of_cap_and_weight() {
+        for (cap, total, sum, sample) in
+            [(16, 24, 2432, 101), (8, 24, 2432, 101), (7, 23, 2328, 101), (3, 19, 1912, 101), (0, 16, 1600, 100)]
+        {
+            for centre in [0, 3, 16] {
+                assert_eq!(built(&[(100, centre), (104, cap)], 1), of(total, sum, sample, 1));
+            }
+        }
+        // a cap of 7 for the one, 16 for the other, which is the same picture
+        assert_eq!(built(&[(100, 16), (104, 7), (104, 16)], 1), of(31, 3160, 102, 2));
+    }
+
+    // A SAD of 13 is excluded whatever the cap; one of 12 is accepted, and counted, at cap 0 too.
+    #[test]
+    fn a_cap_excludes_nothing() {
+        assert_eq!(built(&[(100, 16), (113, 16), (112, 0)], 6), of(16, 1600, 100, 1));
+        assert_eq!(built(&[(100, 0), (112, 0), (88, 0)], 255), of(16, 1600, 100, 2));
+    }
+
+    #[test]
+    fn only_one_frame_and_strength_0_are_cropped() {
+        let cropped = Built { output: vec![100; 3], ..Built::default() };
+        assert_eq!(built(&[(100, 3)], 6), cropped);
+        assert_eq!(built(&[(100, 3), (101, 0)], 0), cropped);
+    }
 }
