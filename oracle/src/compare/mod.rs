@@ -129,11 +129,12 @@ fn report(run: Run, index: u64, input: Input) {
     println!("compare: again: oracle/compare --seed {} --index {index}", run.seed);
 }
 
-// Inputs by call: accepted and refused.
+// Inputs by call: accepted and refused; of the accepted builds those with a lower cap beside the centre.
 struct Tally {
     kinds: Vec<&'static Kind>,
     counts: Vec<[u64; 2]>,
     refused: [u64; 31],
+    capped: u64,
     done: u64,
     last: Instant,
 }
@@ -142,7 +143,7 @@ impl Tally {
     fn new() -> Tally {
         let kinds = kinds();
         let counts = vec![[0; 2]; kinds.len()];
-        Tally { kinds, counts, refused: [0; 31], done: 0, last: Instant::now() }
+        Tally { kinds, counts, refused: [0; 31], capped: 0, done: 0, last: Instant::now() }
     }
 
     fn add(&mut self, input: &Input, pair: &Pair) {
@@ -150,6 +151,8 @@ impl Tally {
         let refusal = pair.expected.refusal as usize;
         self.counts[place][usize::from(refusal > 0)] += 1;
         self.refused[refusal] += 1;
+        let built = refusal == 0 && input.kind.name.starts_with("build_");
+        self.capped += u64::from(built && builds::caps_a_share(input));
         self.done += 1;
         if self.last.elapsed() >= Duration::from_secs(1) {
             self.last = Instant::now();
@@ -166,5 +169,6 @@ impl Tally {
         let numbers = (1..16).chain([23, 29, 30]);
         let by_number: Vec<String> = numbers.map(|number| format!("{number}: {}", self.refused[number])).collect();
         println!("  refusals by number: {}", by_number.join(", "));
+        println!("  accepted builds in which another frame's cap is below 16: {}", self.capped);
     }
 }
