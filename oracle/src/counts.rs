@@ -1,6 +1,7 @@
 //! Counts beneath the diamond and the builder: `counted_motion_search` is motion_search.rs with calls of
 //! `note_sad` and `note_round` put in, `counted_arnr` is arnr.rs with calls of `note_block` and `note_plane`, which
-//! `capped_arnr` has too (see caps.rs). The unchanged file answers; the counted copy must agree with it before its counts are taken.
+//! `capped_arnr` has too (see caps.rs). The unchanged file answers; the counted copy must agree with it before its counts
+//! are taken.
 
 use crate::arnr::{ArnrConfig, ArnrPicture, build_arnr_altref};
 use crate::counted_arnr;

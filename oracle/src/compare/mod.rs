@@ -2,7 +2,8 @@
 //!
 //! Where a call is refused, the expected number and values come from refusals.rs, and every lent slice must
 //! hold what it held; elsewhere the originals' answer decides, with the counts of counts.rs, at a version that of
-//! versions.rs, and with a lower cap that of caps.rs. A whole picture's is that of their single calls, within an allowance with an account kept beside them.
+//! versions.rs, and with a lower cap that of caps.rs. A whole picture's is that of their single calls, within an
+//! allowance with an account kept beside them.
 
 mod allowances;
 mod answer;
