@@ -19,6 +19,7 @@
  *   3  the centre's width or height is 0 or above 16383: width, height
  *   4  a frame's size differs from the centre's: other_width, other_height of the first such frame,
  *      width, height of the centre
+ *  29  a frame's cap exceeds 16: frame, the index of the first such frame
  *   5  a plane does not fit the picture bytes: frame, the index of the first such frame
  *   6  the output slice is shorter than P, the samples of all three planes
  *   7  either of the two working slices is shorter than P
@@ -50,7 +51,8 @@ extern "C" {
 #define VP8MODEL_QUARTER_PIXEL_STEP 1
 #define VP8MODEL_NO_CEILING 65281
 #define VP8MODEL_MAX_STRENGTH 6
-#define VP8MODEL_NUMBERS_PER_FRAME 7
+#define VP8MODEL_NUMBERS_PER_FRAME 8
+#define VP8MODEL_MAX_CAP 16
 
 /* Whether a call that fills an array was accepted. */
 typedef struct vp8model_status {
@@ -116,7 +118,8 @@ typedef struct vp8model_allowed {
     uint32_t comparisons;
 } vp8model_allowed;
 
-/* A frame: its size, where its planes start in the picture bytes, and the bytes from row to row. */
+/* A frame: its size, where its planes start in the picture bytes, the bytes from row to row, and its cap, 0 to
+ * 16: the share of a frame other than the centre is min(cap, w(e)), as the builders below say. */
 typedef struct vp8model_frame {
     uint32_t width;
     uint32_t height;
@@ -125,6 +128,7 @@ typedef struct vp8model_frame {
     uint32_t v;
     uint32_t luma_stride;
     uint32_t chroma_stride;
+    uint32_t cap;
 } vp8model_frame;
 
 /* A builder's answer: the picture's size and the number of accepted blocks over all other frames, or a
@@ -239,8 +243,9 @@ vp8model_allowed vp8model_search_picture_luma_within(const uint8_t *plane, size_
                                                      size_t rows_len, int16_t *cols, size_t cols_len,
                                                      uint32_t *sads, size_t sads_len);
 
-/* The weights of the differences 0 to 255 at a strength, one of them, the scale, and the distance bound:
- * n other frames move no sample farther. Strengths 7 to 255 are read as 6; at 0 every weight is 0. */
+/* The weights w(e) of the differences e from 0 to 255 at a strength, one of them, the scale, and the distance
+ * bound: n other frames move no sample farther, whatever their caps. Strengths 7 to 255 are read as 6; at 0
+ * every weight is 0. */
 void vp8model_curve(uint8_t strength, uint32_t curve[256]);
 uint32_t vp8model_weight(uint8_t strength, uint8_t e);
 uint32_t vp8model_scale_of(uint8_t strength);
@@ -251,20 +256,28 @@ uint8_t vp8model_arnr_config_new(uint8_t strength);
 uint8_t vp8model_arnr_config_default(void);
 uint8_t vp8model_arnr_config_with_strength(uint8_t config, uint8_t v);
 
-/* Frames as seven numbers each, in the order of vp8model_frame: how many there are (numbers left over are
- * not read), and frame g; from the frame count on, the frame of zeros. */
+/* Frames as eight numbers each, in the order of vp8model_frame: how many there are (numbers left over are
+ * not read), and frame g; from the frame count on, the frame of zeros. Only the builders and their checks look
+ * at caps: vp8model_frame_at hands the number out as it is, also above 16. */
 size_t vp8model_frame_count(const uint32_t *numbers, size_t numbers_len);
 vp8model_frame vp8model_frame_at(const uint32_t *numbers, size_t numbers_len, size_t g);
 
 /* The builder's checks alone, by the lengths of its three lent slices: the picture's size, or the first of
- * the refusals 1 to 7; accepted is 0. */
+ * the refusals 1, 2, 3, 4, 29, 5, 6 and 7, in this order; accepted is 0. */
 vp8model_build vp8model_check_build(const uint8_t *bytes, size_t bytes_len, const uint32_t *numbers,
                                     size_t numbers_len, size_t centre, size_t output_len, size_t sums_len,
                                     size_t weights_len);
 
-/* The builder over numbers and over records. Refusals 1 to 7. Where it is accepted, the first P entries of
- * output are Y, U and V, packed; those of sums and weights the sums and total weights, unless the centre is
- * only cropped (one frame, or strength 0), where they are unchanged. Entries past P are unchanged. */
+/* The builder over numbers and over records. Refusals 1, 2, 3, 4, 29, 5, 6 and 7, in this order. Where it is
+ * accepted, the first P entries of output are Y, U and V, packed; those of sums and weights the sums and
+ * total weights, unless the centre is only cropped (one frame, or strength 0), where they are unchanged.
+ * Entries past P are unchanged.
+ *
+ * At each sample the centre weighs 16. Another frame's share is min(cap, w(e)) where its block is accepted,
+ * else 0: the lesser of that frame's cap and the curve's weight of e, the difference of its displaced sample
+ * and the centre sample. The centre's cap is checked (29) and not used. A frame with cap 0 has no share, but
+ * its blocks are searched, accepted and counted as with any other cap. With every cap 16 the answers are those
+ * of the Rust original. */
 vp8model_build vp8model_build_from_numbers(const uint8_t *bytes, size_t bytes_len,
                                            const uint32_t *numbers, size_t numbers_len, size_t centre,
                                            uint8_t strength, uint8_t *output, size_t output_len,
