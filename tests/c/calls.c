@@ -1,9 +1,9 @@
 /*
  * Calls every function of vp8model.h, accepted and refused, and holds the answers against values worked out by
  * hand from document 01, those of the SAD up to a ceiling from request 4, those of versions and bilinear rows
- * from request 10, those of whole pictures from requests 1 and 14 and against the single calls. Every slice and
- * array is lent from between guard entries. On a refusal, and for const arguments always, the lent entries are as
- * they were.
+ * from request 10, those of whole pictures from requests 1 and 14 and against the single calls, those of caps from
+ * request 7. Every slice and array is lent from between guard entries. On a refusal, and for const arguments
+ * always, the lent entries are as they were.
  *
  * Prints one line, `calls: N checks, M failed`, after a line for each check that fails. C11 and C++.
  */
@@ -142,7 +142,7 @@ static vp8model_frame records_kept[1 + FRAMES_MOST + 1];
 enum builder { CHECKS_ONLY, FROM_NUMBERS, FROM_RECORDS };
 
 static const vp8model_frame guard_record = {WORD_MARK, WORD_MARK, WORD_MARK, WORD_MARK,
-                                            WORD_MARK, WORD_MARK, WORD_MARK};
+                                            WORD_MARK, WORD_MARK, WORD_MARK, WORD_MARK};
 
 /* The records of the numbers that are lent. */
 static size_t lend_records(void)
@@ -152,7 +152,7 @@ static size_t lend_records(void)
         records[g] = guard_record;
     for (size_t g = 0; g < count; g++) {
         const uint32_t *n = at_words(&numbers) + g * VP8MODEL_NUMBERS_PER_FRAME;
-        vp8model_frame f = {n[0], n[1], n[2], n[3], n[4], n[5], n[6]};
+        vp8model_frame f = {n[0], n[1], n[2], n[3], n[4], n[5], n[6], n[7]};
         records[1 + g] = f;
     }
     memcpy(records_kept, records, sizeof records);
@@ -203,6 +203,12 @@ static int is_build(vp8model_build b, uint32_t refusal, uint32_t width, uint32_t
         CHECK(all_kept(which));                                                                   \
     } while (0)
 
+static int is_frame_of_zeros(vp8model_frame f)
+{
+    return f.width == 0 && f.height == 0 && f.y == 0 && f.u == 0 && f.v == 0 && f.luma_stride == 0
+           && f.chroma_stride == 0 && f.cap == 0;
+}
+
 /* No frames, no bytes, nothing lent: every centre index is out of range. */
 static void empty_window(void)
 {
@@ -216,9 +222,7 @@ static void empty_window(void)
         REFUSES((enum builder)which, SIZE_MAX, 1, 0, 0, 0, 0, 0);
     }
     CHECK(vp8model_frame_count(at_words(&numbers), 0) == 0);
-    vp8model_frame f = vp8model_frame_at(at_words(&numbers), 0, 0);
-    CHECK(f.width == 0 && f.height == 0 && f.y == 0 && f.u == 0 && f.v == 0);
-    CHECK(f.luma_stride == 0 && f.chroma_stride == 0);
+    CHECK(is_frame_of_zeros(vp8model_frame_at(at_words(&numbers), 0, 0)));
 }
 
 static void samples_and_vectors(void)
@@ -1457,25 +1461,29 @@ static void weight_curves(void)
 
 static void frames_as_numbers(void)
 {
-    lend_words(&numbers, 15, 0);
-    for (uint32_t i = 0; i < 15; i++)
+    const size_t per = VP8MODEL_NUMBERS_PER_FRAME;
+    lend_words(&numbers, 2 * per + 7, 0);
+    for (uint32_t i = 0; i < numbers.length; i++)
         at_words(&numbers)[i] = 100 + i;
     keep_words(&numbers);
-    CHECK(vp8model_frame_count(at_words(&numbers), 15) == 2);
-    CHECK(vp8model_frame_count(at_words(&numbers), 13) == 1);
-    CHECK(vp8model_frame_count(at_words(&numbers), 6) == 0);
-    vp8model_frame f = vp8model_frame_at(at_words(&numbers), 15, 1);
-    CHECK(f.width == 107 && f.height == 108 && f.y == 109 && f.u == 110 && f.v == 111);
-    CHECK(f.luma_stride == 112 && f.chroma_stride == 113);
+    CHECK(per == 8 && sizeof(vp8model_frame) == per * sizeof(uint32_t));
+    for (size_t length = 0; length <= 23; length++)
+        CHECK(vp8model_frame_count(at_words(&numbers), length) == (length < 8 ? 0 : length < 16 ? 1 : 2));
+    vp8model_frame f = vp8model_frame_at(at_words(&numbers), 23, 1);
+    CHECK(f.width == 108 && f.height == 109 && f.y == 110 && f.u == 111 && f.v == 112);
+    CHECK(f.luma_stride == 113 && f.chroma_stride == 114 && f.cap == 115);
     /* numbers left over are not read: from the frame count on, the frame of zeros */
-    f = vp8model_frame_at(at_words(&numbers), 15, 2);
-    CHECK(f.width == 0 && f.height == 0 && f.y == 0 && f.u == 0 && f.v == 0);
-    CHECK(f.luma_stride == 0 && f.chroma_stride == 0);
-    f = vp8model_frame_at(at_words(&numbers), 13, 1);
-    CHECK(f.width == 0 && f.height == 0 && f.y == 0 && f.u == 0 && f.v == 0);
-    CHECK(f.luma_stride == 0 && f.chroma_stride == 0);
-    f = vp8model_frame_at(at_words(&numbers), 15, SIZE_MAX);
-    CHECK(f.width == 0 && f.chroma_stride == 0);
+    CHECK(is_frame_of_zeros(vp8model_frame_at(at_words(&numbers), 23, 2)));
+    CHECK(is_frame_of_zeros(vp8model_frame_at(at_words(&numbers), 15, 1)));
+    CHECK(is_frame_of_zeros(vp8model_frame_at(at_words(&numbers), 7, 0)));
+    CHECK(is_frame_of_zeros(vp8model_frame_at(at_words(&numbers), 23, SIZE_MAX)));
+    CHECK(same_words(&numbers));
+    /* a cap is handed out as it is */
+    at_words(&numbers)[7] = UINT32_MAX;
+    at_words(&numbers)[15] = 17;
+    keep_words(&numbers);
+    CHECK(vp8model_frame_at(at_words(&numbers), 23, 0).cap == UINT32_MAX);
+    CHECK(vp8model_frame_at(at_words(&numbers), 23, 1).cap == 17);
     CHECK(same_words(&numbers));
 }
 
@@ -1483,10 +1491,17 @@ static void frames_as_numbers(void)
 #define P 384
 #define PAST 5
 
+/* The cap is 16. */
 static void put_frame(size_t g, uint32_t width, uint32_t height, uint32_t y)
 {
-    const uint32_t seven[7] = {width, height, y, y + 256, y + 320, 16, 8};
-    memcpy(at_words(&numbers) + g * VP8MODEL_NUMBERS_PER_FRAME, seven, sizeof seven);
+    const uint32_t eight[8] = {width, height, y, y + 256, y + 320, 16, 8, 16};
+    memcpy(at_words(&numbers) + g * VP8MODEL_NUMBERS_PER_FRAME, eight, sizeof eight);
+    keep_words(&numbers);
+}
+
+static void put_cap(size_t g, uint32_t cap)
+{
+    at_words(&numbers)[g * VP8MODEL_NUMBERS_PER_FRAME + 7] = cap;
     keep_words(&numbers);
 }
 
@@ -1502,6 +1517,15 @@ static void lend_window(size_t count, uint8_t other)
     lend_bytes(&output, P + PAST, 7);
     lend_words(&sums, P + PAST, 7);
     lend_words(&weights, P + PAST, 7);
+}
+
+/* So many numbers more behind those of the frames, each 4294967295. */
+static void lend_more_numbers(size_t more)
+{
+    for (size_t i = 0; i < more; i++)
+        at_words(&numbers)[numbers.length + i] = UINT32_MAX;
+    numbers.length += more;
+    keep_words(&numbers);
 }
 
 static void refused_builds(enum builder which)
@@ -1572,6 +1596,194 @@ static void accepted_builds(enum builder which)
     CHECK(is_filled(100, 7, 7) && inputs_kept(which));
 }
 
+/* 29: a cap of 17 or more, at any frame, the centre among them; `frame` is the lowest. */
+static void refused_caps(enum builder which)
+{
+    static const uint32_t caps[] = {VP8MODEL_MAX_CAP + 1, 32, 256, 65536 + 16, 1u << 31, UINT32_MAX};
+    for (uint32_t g = 0; g < 3; g++)
+        for (size_t i = 0; i < sizeof caps / sizeof caps[0]; i++)
+            for (size_t centre = 0; centre < 3; centre++) {
+                lend_window(3, 104);
+                put_cap(g, caps[i]);
+                REFUSES(which, centre, 29, 0, 0, 0, 0, g);
+            }
+    lend_window(4, 104);
+    put_cap(3, 17);
+    put_cap(1, UINT32_MAX);
+    put_cap(2, 18);
+    REFUSES(which, 0, 29, 0, 0, 0, 0, 1);
+    REFUSES(which, 3, 29, 0, 0, 0, 0, 1);
+    put_cap(0, 17);
+    REFUSES(which, 3, 29, 0, 0, 0, 0, 0);
+    lend_window(1024, 104);
+    put_cap(1023, 17);
+    REFUSES(which, 0, 29, 0, 0, 0, 0, 1023);
+    REFUSES(which, 1023, 29, 0, 0, 0, 0, 1023);
+    /* also where the centre would only be cropped: one frame, or strength 0 */
+    lend_window(1, 104);
+    put_cap(0, 17);
+    REFUSES(which, 0, 29, 0, 0, 0, 0, 0);
+    lend_window(2, 104);
+    put_cap(1, 17);
+    CHECK(is_build(build(which, 0, 0), 29, 0, 0, 0, 0, 0, 1));
+    CHECK(all_kept(which));
+}
+
+/* 29 after 1 to 4, whichever frame 4 speaks of, and before 5 to 7. */
+static void caps_in_order(enum builder which)
+{
+    lend_window(3, 104);
+    put_cap(1, 17);
+    REFUSES(which, 3, 1, 0, 0, 0, 0, 0);
+    lend_window(1025, 104);
+    put_cap(0, 17);
+    REFUSES(which, 0, 2, 0, 0, 0, 0, 0);
+    for (size_t g = 0; g < 3; g++) {
+        lend_window(3, 104);
+        put_frame(0, 16384, 16, 0);
+        put_cap(g, 17);
+        REFUSES(which, 0, 3, 16384, 16, 0, 0, 0);
+        lend_window(3, 104);
+        put_frame(2, 8, 15, P);
+        put_cap(g, 17);
+        REFUSES(which, 0, 4, 16, 16, 8, 15, 0);
+    }
+    for (uint32_t g = 0; g < 3; g++) {
+        lend_window(3, 104);
+        put_frame(1, 16, 16, P + 1);
+        put_cap(g, 17);
+        REFUSES(which, 0, 29, 0, 0, 0, 0, g);
+        lend_bytes(&output, P - 1, 7);
+        REFUSES(which, 0, 29, 0, 0, 0, 0, g);
+        lend_words(&sums, P - 1, 7);
+        lend_words(&weights, P - 1, 7);
+        REFUSES(which, 0, 29, 0, 0, 0, 0, g);
+    }
+    put_cap(2, 16);
+    REFUSES(which, 0, 5, 0, 0, 0, 0, 1);
+}
+
+/* The centre is 100, the other frame `other` with that cap: its block is accepted, and all three slices hold these. */
+static void check_capped(enum builder which, uint8_t other, uint8_t strength, uint32_t cap, uint8_t sample,
+                         uint32_t sum, uint32_t total)
+{
+    lend_window(2, other);
+    put_cap(1, cap);
+    CHECK(is_build(build(which, 0, strength), 0, 16, 16, 1, 0, 0, 0));
+    CHECK(is_filled(sample, sum, total) && inputs_kept(which));
+}
+
+/* The share is the lesser of the cap and the weight: w(4) is 8 at strength 1 and 15 at 6, w(0) is 16. */
+static void capped_builds(enum builder which)
+{
+    check_capped(which, 104, 1, VP8MODEL_MAX_CAP, 101, 2432, 24);
+    check_capped(which, 104, 1, 9, 101, 2432, 24);
+    check_capped(which, 104, 1, 8, 101, 2432, 24);
+    check_capped(which, 104, 1, 7, 101, 2328, 23);
+    check_capped(which, 104, 1, 3, 101, 1912, 19);
+    check_capped(which, 104, 1, 1, 100, 1704, 17);
+    check_capped(which, 104, 1, 0, 100, 1600, 16);
+    check_capped(which, 104, 6, 16, 102, 3160, 31);
+    check_capped(which, 104, 6, 15, 102, 3160, 31);
+    check_capped(which, 104, 6, 14, 102, 3056, 30);
+    check_capped(which, 104, 255, 14, 102, 3056, 30);
+    check_capped(which, 100, 3, 16, 100, 3200, 32);
+    check_capped(which, 100, 3, 15, 100, 3100, 31);
+    check_capped(which, 100, 3, 0, 100, 1600, 16);
+    /* an excluded block has no share, whatever the cap, and is not counted */
+    for (uint32_t cap = 0; cap <= 16; cap += 8) {
+        lend_window(2, 113);
+        put_cap(1, cap);
+        CHECK(is_build(build(which, 0, 1), 0, 16, 16, 0, 0, 0, 0));
+        CHECK(is_filled(100, 1600, 16) && inputs_kept(which));
+    }
+    /* the centre is only cropped, whatever the caps */
+    lend_window(2, 104);
+    put_cap(0, 0);
+    put_cap(1, 0);
+    CHECK(is_build(build(which, 1, 0), 0, 16, 16, 0, 0, 0, 0));
+    CHECK(is_filled(104, 7, 7) && inputs_kept(which));
+    lend_window(1, 104);
+    put_cap(0, 0);
+    CHECK(is_build(build(which, 0, 1), 0, 16, 16, 0, 0, 0, 0));
+    CHECK(is_filled(100, 7, 7) && inputs_kept(which));
+}
+
+/* Three frames, all 100, all 104 and all 108, with these caps: both others' blocks are accepted. */
+static void check_three(enum builder which, size_t centre, uint32_t first, uint32_t second, uint32_t third,
+                        uint8_t sample, uint32_t sum, uint32_t total)
+{
+    lend_window(3, 104);
+    lend_bytes(&picture, 3 * P, 100);
+    memset(at_bytes(&picture) + P, 104, P);
+    memset(at_bytes(&picture) + 2 * P, 108, P);
+    keep_bytes(&picture);
+    put_frame(2, 16, 16, 2 * P);
+    put_cap(0, first);
+    put_cap(1, second);
+    put_cap(2, third);
+    CHECK(is_build(build(which, centre, 1), 0, 16, 16, 2, 0, 0, 0));
+    CHECK(is_filled(sample, sum, total) && inputs_kept(which));
+}
+
+/* Each frame by its own cap, and the centre by none: at strength 1 w(4) is 8 and w(8) is 3. */
+static void caps_of_several(enum builder which)
+{
+    static const uint32_t centre_caps[] = {0, 1, 7, 8, 16};
+    for (size_t i = 0; i < sizeof centre_caps / sizeof centre_caps[0]; i++) {
+        uint32_t unused = centre_caps[i];
+        /* 1600 + 5 * 104 + 2 * 108; 1600 + 2 * 104 + 3 * 108; 1600 + 3 * 108; 1600 + 8 * 104 + 3 * 108 */
+        check_three(which, 0, unused, 5, 2, 102, 2336, 23);
+        check_three(which, 0, unused, 2, 5, 102, 2132, 21);
+        check_three(which, 0, unused, 0, 4, 101, 1924, 19);
+        check_three(which, 0, unused, 16, 16, 102, 2756, 27);
+        /* 16 * 104 + 6 * 100 + 1 * 108; 16 * 104 */
+        check_three(which, 1, 6, unused, 1, 103, 2372, 23);
+        check_three(which, 1, 0, unused, 0, 104, 1664, 16);
+        /* 16 * 108 + 1 * 100 + 7 * 104 */
+        check_three(which, 2, 1, 7, unused, 107, 2556, 24);
+    }
+    /* records that differ in the cap alone are two frames, also where one is the centre: shares of 7 and 3, of 5 */
+    lend_window(3, 104);
+    put_cap(1, 7);
+    put_cap(2, 3);
+    CHECK(is_build(build(which, 0, 1), 0, 16, 16, 2, 0, 0, 0));
+    CHECK(is_filled(102, 2640, 26) && inputs_kept(which));
+    lend_window(2, 104);
+    put_frame(1, 16, 16, 0);
+    put_cap(1, 5);
+    CHECK(is_build(build(which, 0, 1), 0, 16, 16, 1, 0, 0, 0));
+    CHECK(is_filled(100, 2100, 21) && inputs_kept(which));
+}
+
+/* One to seven numbers behind the last frame are not read: a frame that began with them would be refused. */
+static void leftover_numbers(void)
+{
+    for (size_t more = 1; more < VP8MODEL_NUMBERS_PER_FRAME; more++) {
+        lend_window(2, 104);
+        put_cap(1, 7);
+        lend_more_numbers(more);
+        CHECK(is_build(build(CHECKS_ONLY, 0, 1), 0, 16, 16, 0, 0, 0, 0));
+        CHECK(all_kept(CHECKS_ONLY));
+        REFUSES(FROM_NUMBERS, 2, 1, 0, 0, 0, 0, 0);
+        CHECK(is_build(build(FROM_NUMBERS, 0, 1), 0, 16, 16, 1, 0, 0, 0));
+        CHECK(is_filled(101, 2328, 23) && inputs_kept(FROM_NUMBERS));
+        lend_window(0, 104);
+        lend_more_numbers(more);
+        REFUSES(CHECKS_ONLY, 0, 1, 0, 0, 0, 0, 0);
+        REFUSES(FROM_NUMBERS, 0, 1, 0, 0, 0, 0, 0);
+        /* 1025 * 8 - 1 numbers are 1024 frames */
+        lend_window(1024, 104);
+        lend_more_numbers(more);
+        CHECK(is_build(build(CHECKS_ONLY, 1023, 1), 0, 16, 16, 0, 0, 0, 0));
+        REFUSES(FROM_NUMBERS, 1024, 1, 0, 0, 0, 0, 0);
+        lend_window(1025, 104);
+        lend_more_numbers(more);
+        REFUSES(CHECKS_ONLY, 0, 2, 0, 0, 0, 0, 0);
+        REFUSES(FROM_NUMBERS, 0, 2, 0, 0, 0, 0, 0);
+    }
+}
+
 /* The checks alone: legal sizes, and the limits 16383 and 1024. */
 static void legal_checks(void)
 {
@@ -1586,7 +1798,7 @@ static void legal_checks(void)
     lend_bytes(&output, 32767, 7);
     lend_words(&sums, 32767, 7);
     lend_words(&weights, 32767, 7);
-    const uint32_t wide[7] = {16383, 1, 0, 16383, 24575, 16383, 8192};
+    const uint32_t wide[8] = {16383, 1, 0, 16383, 24575, 16383, 8192, 16};
     memcpy(at_words(&numbers), wide, sizeof wide);
     keep_words(&numbers);
     CHECK(is_build(build(CHECKS_ONLY, 0, 0), 0, 16383, 1, 0, 0, 0, 0));
@@ -1642,6 +1854,15 @@ int main(void)
     accepted_builds(FROM_NUMBERS);
     accepted_builds(FROM_RECORDS);
     legal_checks();
+    for (int which = CHECKS_ONLY; which <= FROM_RECORDS; which++) {
+        refused_caps((enum builder)which);
+        caps_in_order((enum builder)which);
+    }
+    leftover_numbers();
+    for (int which = FROM_NUMBERS; which <= FROM_RECORDS; which++) {
+        capped_builds((enum builder)which);
+        caps_of_several((enum builder)which);
+    }
     printf("calls: %u checks, %u failed\n", checks, failed);
     return failed == 0 ? 0 : 1;
 }
