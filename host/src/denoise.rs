@@ -2,26 +2,30 @@
 
 use crate::failure::Failure;
 use crate::files::{append, opened, room, zeros};
-use crate::model::{self, Filled, Frame};
+use crate::model::{self, Filled, Frame, MAX_CAP};
 use crate::names::{Named, apart};
 use crate::outputs::{self, Content};
 use crate::progress::Progress;
 use crate::say::note;
 use crate::words::Words;
+use std::fs::File;
 use std::path::Path;
 
-const OPTIONS: [&str; 6] = ["--width", "--height", "--strength", "--centre", "--sums", "--weights"];
+const OPTIONS: [&str; 7] = ["--width", "--height", "--strength", "--centre", "--caps", "--sums", "--weights"];
 
 pub fn run(words: &[String]) -> Result<(), Failure> {
     let words = Words::parse(words, &OPTIONS)?;
     let (width, height) = (words.number("--width", u32::MAX)?, words.number("--height", u32::MAX)?);
     let strength: u8 = words.number("--strength", u8::MAX)?;
     let centre: u32 = words.number("--centre", u32::MAX)?;
+    let caps = words.list("--caps", u32::MAX)?;
     let [input, output] = words.files("IN.i420 and OUT.i420")?;
     let outputs = Outputs::named(&words, &input, &output)?;
     let size = Size::new(width, height);
-    let (bytes, count) = read_frames(&input, &size)?;
-    let frames = records(&input, &size, count)?;
+    let (mut file, count) = counted(&input, &size)?;
+    let caps = caps_of(caps, &size, count)?;
+    let bytes = read_frames(&mut file, &input, &size, count)?;
+    let frames = records(&input, &size, count, caps)?;
     let legal = (1..=16383).contains(&width) && (1..=16383).contains(&height);
     let samples = if legal { size.samples() } else { 0 };
     let mut filled = Filled {
@@ -99,22 +103,36 @@ impl Size {
         self.luma().saturating_add(2 * self.chroma())
     }
 
-    // Frame g of packed ones, where its starts are 32-bit numbers.
+    // Frame g of packed ones, with the greatest cap, where its starts are 32-bit numbers.
     fn frame(&self, g: u64) -> Option<Frame> {
         let y = g.checked_mul(self.samples())?;
         let u = y.checked_add(self.luma())?;
         let v = u.checked_add(self.chroma())?;
         let [width, height, chroma] = [self.width, self.height, self.width.div_ceil(2)].map(|n| n as u32);
         let [y, u, v] = [u32::try_from(y).ok()?, u32::try_from(u).ok()?, u32::try_from(v).ok()?];
-        Some(Frame { width, height, y, u, v, luma_stride: width, chroma_stride: chroma })
+        Some(Frame { width, height, y, u, v, luma_stride: width, chroma_stride: chroma, cap: MAX_CAP })
     }
 }
 
-// The record of each frame.
-fn records(input: &Path, size: &Size, count: u64) -> Result<Vec<Frame>, Failure> {
+// The caps, where they are given: one for each frame. A size without samples has no frames to count; the model refuses
+// it, whatever the caps.
+fn caps_of(given: Option<Vec<u32>>, size: &Size, count: u64) -> Result<Vec<u32>, Failure> {
+    match given.filter(|_| size.samples() > 0) {
+        Some(caps) if caps.len() as u64 != count => {
+            Err(Failure::Usage(format!("--caps has {} numbers, expected one for each of {count} frames", caps.len())))
+        }
+        caps => Ok(caps.unwrap_or_default()),
+    }
+}
+
+// The record of each frame, with its cap where there are caps.
+fn records(input: &Path, size: &Size, count: u64, caps: Vec<u32>) -> Result<Vec<Frame>, Failure> {
     let mut frames = room(count, "frame records")?;
     for g in 0..count {
         frames.push(size.frame(g).ok_or_else(|| too_far(input))?);
+    }
+    for (frame, cap) in frames.iter_mut().zip(caps) {
+        frame.cap = cap;
     }
     Ok(frames)
 }
@@ -124,12 +142,12 @@ fn too_far(input: &Path) -> Failure {
     Failure::Files(format!("{name}: a plane starts at byte 4294967296 or later, which no 32-bit start can say"))
 }
 
-// All bytes and the frame count. A size without samples is one frame, for the model to refuse.
-fn read_frames(input: &Path, size: &Size) -> Result<(Vec<u8>, u64), Failure> {
-    let (mut file, len) = opened(input)?;
+// The file and its frame count. A size without samples is one frame, for the model to refuse.
+fn counted(input: &Path, size: &Size) -> Result<(File, u64), Failure> {
+    let (file, len) = opened(input)?;
     let samples = size.samples();
     if samples == 0 {
-        return Ok((Vec::new(), 1));
+        return Ok((file, 1));
     }
     let (count, rest) = (len / samples, len % samples);
     if rest != 0 {
@@ -142,11 +160,20 @@ fn read_frames(input: &Path, size: &Size) -> Result<(Vec<u8>, u64), Failure> {
     if count > 0 && size.frame(count - 1).is_none() {
         return Err(too_far(input));
     }
-    let mut bytes = room(len, "bytes of frames")?;
+    Ok((file, count))
+}
+
+// The bytes of all frames.
+fn read_frames(file: &mut File, input: &Path, size: &Size, count: u64) -> Result<Vec<u8>, Failure> {
+    let samples = size.samples();
+    if samples == 0 {
+        return Ok(Vec::new());
+    }
+    let mut bytes = room(count * samples, "bytes of frames")?;
     let mut progress = Progress::new("denoise", "frames read", count);
     for g in 0..count {
-        append(&mut file, input, samples, &mut bytes)?;
+        append(file, input, samples, &mut bytes)?;
         progress.at(g + 1);
     }
-    Ok((bytes, count))
+    Ok(bytes)
 }

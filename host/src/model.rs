@@ -12,7 +12,11 @@ pub struct Frame {
     pub v: u32,
     pub luma_stride: u32,
     pub chroma_stride: u32,
+    pub cap: u32,
 }
+
+/// The greatest cap, which bounds no weight.
+pub const MAX_CAP: u32 = 16;
 
 #[repr(C)]
 pub struct Build {
@@ -109,7 +113,7 @@ pub fn build(
     let values = match built.refusal {
         3 => format!(": {width} by {height}"),
         4 => format!(": {other_width} by {other_height}, the centre's {width} by {height}"),
-        5 => format!(": frame {frame}"),
+        29 | 5 => format!(": frame {frame}"),
         _ => String::new(),
     };
     accepted(built.refusal, &values).map(|()| built)
@@ -211,6 +215,7 @@ fn accepted(refusal: u32, values: &str) -> Result<(), Failure> {
         2 => "the frame count exceeds 1024",
         3 => "the centre's width or height is 0 or above 16383",
         4 => "a frame's size differs from the centre's",
+        29 => "a frame's cap exceeds 16",
         5 => "a plane does not fit the picture bytes",
         6 => "the output slice is shorter than the samples of all three planes",
         7 => "a working slice is shorter than the samples of all three planes",

@@ -48,6 +48,17 @@ impl Words {
         self.optional(name, most)?.ok_or_else(|| Failure::Usage(format!("{name} is not given")))
     }
 
+    /// Numbers with commas between, which may be left out.
+    pub fn list<T: FromStr + Display>(&self, name: &str, most: T) -> Result<Option<Vec<T>>, Failure> {
+        let parsed = |value: &str| {
+            let all = value.split(',').map(str::parse).collect::<Result<Vec<T>, _>>();
+            all.map_err(|_| {
+                Failure::Usage(format!("{name} {value}: expected numbers, 0 to {most}, with commas between"))
+            })
+        };
+        self.value(name).map(parsed).transpose()
+    }
+
     pub fn path(&self, name: &str) -> Option<PathBuf> {
         self.value(name).map(PathBuf::from)
     }
