@@ -6,7 +6,8 @@
  * two blocks; the products of a filter, from which its sample has to follow; the vectors of a round's tries, of a
  * refinement's square and of the pairs of `orders`, of which it gives the SADs; and the grants of an allowance, from
  * which its lists and its comparisons have to follow. Searches and SADs are those of version 0, but in `bilinear`,
- * `picture` and `allowance`. The program ends with status 1 where something that has to agree does not.
+ * `picture` and `allowance`; every cap is 16, but in `caps`. The program ends with status 1 where something that has to
+ * agree does not.
  */
 #include "vp8model.h"
 
@@ -109,25 +110,35 @@ static const uint8_t small_bytes[] = {
     113, 113, 60, 200, /* 16: D */
 };
 
-/* A window of `width` by 1 whose frames begin at `starts`, the first of them the centre; the first P + 1 entries. */
+/* The record of a picture of `width` by 1 that begins at `y`. */
+static vp8model_frame small_frame(uint32_t width, uint32_t y, uint32_t cap)
+{
+    vp8model_frame f = {width, 1, y, y + width, y + width + 1, width, 1, cap};
+    return f;
+}
+
+/* The first P + 1 entries of the three slices, where P is `width` + 2. */
+static void print_small(uint32_t width)
+{
+    print_bytes("; output", output, width + 3);
+    print_words("; sums", sums, width + 3);
+    print_words("; totals", weights, width + 3);
+    printf("\n");
+}
+
+/* A window of `width` by 1 whose frames begin at `starts`, the first of them the centre, with every cap 16. */
 static void small_build(const char *what, uint32_t width, const uint32_t *starts, size_t count, uint8_t strength,
                         size_t output_len, size_t sums_len)
 {
     vp8model_frame frames[3];
-    for (size_t g = 0; g < count; g++) {
-        uint32_t y = starts[g];
-        vp8model_frame f = {width, 1, y, y + width, y + width + 1, width, 1};
-        frames[g] = f;
-    }
+    for (size_t g = 0; g < count; g++)
+        frames[g] = small_frame(width, starts[g], 16);
     vp8model_build b = build(small_bytes, sizeof small_bytes, frames, count, 0, strength, output_len, sums_len);
     if (b.refusal != 0)
         printf("%s: refusal %" PRIu32, what, b.refusal);
     else
         printf("%s: accepted %" PRIu32, what, b.accepted);
-    print_bytes("; output", output, width + 3);
-    print_words("; sums", sums, width + 3);
-    print_words("; totals", weights, width + 3);
-    printf("\n");
+    print_small(width);
 }
 
 static void small_windows(void)
@@ -148,6 +159,64 @@ static void small_windows(void)
     small_build("no other, output of 2", 1, a, 1, 1, 2, MOST);
     small_build("no other, sums of 2", 1, a, 1, 1, MOST, 2);
     small_build("no frames", 1, a, 0, 1, MOST, MOST);
+    close_case();
+}
+
+/* ---- caps: the centre and A of the small windows, pictures of 1 by 1 */
+
+/* Frame 0 is the centre. 29 and 5 name a frame. */
+static void print_capped(const char *what, const vp8model_frame *frames, size_t count, uint8_t strength)
+{
+    vp8model_build b = build(small_bytes, sizeof small_bytes, frames, count, 0, strength, MOST, MOST);
+    if (b.refusal == 29 || b.refusal == 5)
+        printf("%s: refusal %" PRIu32 ", frame %" PRIu32, what, b.refusal, b.frame);
+    else if (b.refusal != 0)
+        printf("%s: refusal %" PRIu32, what, b.refusal);
+    else
+        printf("%s: accepted %" PRIu32, what, b.accepted);
+    print_small(1);
+}
+
+/* The centre with the first cap, and A once or twice with the others. */
+static void capped_build(const char *what, uint32_t centre_cap, uint32_t first, uint32_t second, size_t count,
+                         uint8_t strength)
+{
+    const vp8model_frame frames[3] = {small_frame(1, 0, centre_cap), small_frame(1, 3, first),
+                                      small_frame(1, 3, second)};
+    print_capped(what, frames, count, strength);
+}
+
+/* 29 where 4 applies to a later frame, and where 5 applies to an earlier one. */
+static void caps_beside_4_and_5(void)
+{
+    vp8model_frame frames[3] = {small_frame(1, 0, 17), small_frame(2, 3, 16), small_frame(1, 3, 17)};
+    print_capped("A of 2 by 1, the centre's 17, strength 1", frames, 2, 1);
+    frames[0].cap = 16;
+    frames[1] = small_frame(1, 3, 16);
+    frames[1].v = sizeof small_bytes;
+    print_capped("V behind the bytes, then A with cap 17, strength 1", frames, 3, 1);
+    frames[2].cap = 16;
+    print_capped("V behind the bytes, then A with cap 16, strength 1", frames, 3, 1);
+}
+
+static void caps(void)
+{
+    open_case("caps");
+    capped_build("cap 16, strength 1", 16, 16, 0, 2, 1);
+    capped_build("cap 8, strength 1", 16, 8, 0, 2, 1);
+    capped_build("cap 7, strength 1", 16, 7, 0, 2, 1);
+    capped_build("cap 3, strength 1", 16, 3, 0, 2, 1);
+    capped_build("cap 0, strength 1", 16, 0, 0, 2, 1);
+    capped_build("cap 2, strength 6", 16, 2, 0, 2, 6);
+    capped_build("cap 7, the centre's 0, strength 1", 0, 7, 0, 2, 1);
+    capped_build("caps 7 and 3, strength 1", 16, 7, 3, 3, 1);
+    capped_build("caps 0 and 16, strength 1", 16, 0, 16, 3, 1);
+    capped_build("cap 17, strength 1", 16, 17, 0, 2, 1);
+    capped_build("cap 16, the centre's 17, strength 1", 17, 16, 0, 2, 1);
+    capped_build("caps 17 and 4294967295, strength 1", 16, 17, UINT32_MAX, 3, 1);
+    capped_build("cap 17, strength 0", 16, 17, 0, 2, 0);
+    capped_build("no other, the centre's 17, strength 1", 17, 0, 0, 1, 1);
+    caps_beside_4_and_5();
     close_case();
 }
 
@@ -231,8 +300,8 @@ static void print_edge(const uint8_t *samples, const uint32_t *held)
 
 static void edge(void)
 {
-    static const vp8model_frame frames[2] = {{WIDTH, HEIGHT, 0, 51, 69, WIDTH, CHROMA_WIDTH},
-                                             {WIDTH, HEIGHT, 87, 138, 156, WIDTH, CHROMA_WIDTH}};
+    static const vp8model_frame frames[2] = {{WIDTH, HEIGHT, 0, 51, 69, WIDTH, CHROMA_WIDTH, 16},
+                                             {WIDTH, HEIGHT, 87, 138, 156, WIDTH, CHROMA_WIDTH, 16}};
     lend_edge();
     edge_costs();
     open_case("edge");
@@ -274,8 +343,8 @@ static void lend_corner(const uint8_t (*marks)[3], size_t count)
 
 static vp8model_build build_corner(void)
 {
-    static const vp8model_frame frames[2] = {{SIDE, SIDE, 0, 289, 370, SIDE, CHROMA_SIDE},
-                                             {SIDE, SIDE, 451, 740, 821, SIDE, CHROMA_SIDE}};
+    static const vp8model_frame frames[2] = {{SIDE, SIDE, 0, 289, 370, SIDE, CHROMA_SIDE, 16},
+                                             {SIDE, SIDE, 451, 740, 821, SIDE, CHROMA_SIDE, 16}};
     vp8model_build b = build(corner_bytes, sizeof corner_bytes, frames, 2, 0, 1, MOST, MOST);
     require(b.refusal == 0, "the window of 17 by 17 was refused");
     return b;
@@ -899,6 +968,7 @@ int main(void)
 {
     strengths();
     small_windows();
+    caps();
     edge();
     corner();
     diamond();
