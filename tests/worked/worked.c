@@ -213,7 +213,7 @@ static void caps(void)
     capped_build("caps 0 and 16, strength 1", 16, 0, 16, 3, 1);
     capped_build("cap 17, strength 1", 16, 17, 0, 2, 1);
     capped_build("cap 16, the centre's 17, strength 1", 17, 16, 0, 2, 1);
-    capped_build("caps 17 and 4294967295, strength 1", 16, 17, UINT32_MAX, 3, 1);
+    capped_build("caps 4294967295 and 17, strength 1", 16, UINT32_MAX, 17, 3, 1);
     capped_build("cap 17, strength 0", 16, 17, 0, 2, 0);
     capped_build("no other, the centre's 17, strength 1", 17, 0, 0, 1, 1);
     caps_beside_4_and_5();
