@@ -1784,6 +1784,18 @@ static void leftover_numbers(void)
     }
 }
 
+static void caps(void)
+{
+    for (int which = CHECKS_ONLY; which <= FROM_RECORDS; which++) {
+        refused_caps((enum builder)which);
+        caps_in_order((enum builder)which);
+    }
+    for (int which = FROM_NUMBERS; which <= FROM_RECORDS; which++) {
+        capped_builds((enum builder)which);
+        caps_of_several((enum builder)which);
+    }
+}
+
 /* The checks alone: legal sizes, and the limits 16383 and 1024. */
 static void legal_checks(void)
 {
@@ -1854,15 +1866,8 @@ int main(void)
     accepted_builds(FROM_NUMBERS);
     accepted_builds(FROM_RECORDS);
     legal_checks();
-    for (int which = CHECKS_ONLY; which <= FROM_RECORDS; which++) {
-        refused_caps((enum builder)which);
-        caps_in_order((enum builder)which);
-    }
     leftover_numbers();
-    for (int which = FROM_NUMBERS; which <= FROM_RECORDS; which++) {
-        capped_builds((enum builder)which);
-        caps_of_several((enum builder)which);
-    }
+    caps();
     printf("calls: %u checks, %u failed\n", checks, failed);
     return failed == 0 ? 0 : 1;
 }
