@@ -15,7 +15,7 @@ use Rattle.weights.specs.Blend.{totalWeight, weightedSum, denoised}
 use Rattle.laws.proofs.Each.{Each}
 use Rattle.window.specs.Layout.{sideOf, packedSize, placeOf}
 use Rattle.window.specs.Frames.{frameAt, frameCount}
-use Rattle.denoiser.specs.Window.{Scene, Window, Rule, centreAt, shareOf, totalAt, sumAt, denoisedAt, acceptedIn, acceptedBlocks, displacedAt, arnrRule}
+use Rattle.denoiser.specs.Window.{Scene, Window, Rule, centreAt, shareOf, totalAt, sumAt, denoisedAt, acceptedBlocks, displacedAt, arnrRule}
 use Rattle.denoiser.specs.Pictures.{pictureOf, otherOf, othersOf}
 use Rattle.denoiser.specs.Build.{Request, sceneOf, windowOf, packed}
 use Rattle.denoiser.specs.Internal.{Room, Slack, Front, Spread, Shows, Ready, Legal, packedPicture, packedScene, otherShare, otherTerm, otherBlocks}

@@ -1,11 +1,10 @@
 -- Two rules that take each other frame of a window alike make the same of it: the promise under one is that under the other. Assumes nothing.
-use mathlib.Core.Path.{_≡_, refl, sym, ap, _∙_, fun-ext}
+use mathlib.Core.Path.{_≡_, refl, ap, _∙_, fun-ext}
 use mathlib.Core.Bool.{Bool, cond}
 use mathlib.Core.List.{List}
 use Prim.Native.Nat.{ℕ, _+_, _*_, _/_}
-use lib.ListN.{getD}
 use Rattle.laws.specs.Outcome.{Outcome, firstOf, after}
-use Rattle.laws.specs.Sums.{sumBelow, sumOver}
+use Rattle.laws.specs.Sums.{sumOver}
 use Rattle.laws.proofs.Sums.{sum-same, sum-over-each}
 use Rattle.laws.proofs.Each.{Each, each-map}
 use Rattle.prediction.specs.Samples.{distance}
@@ -15,8 +14,8 @@ use Rattle.denoiser.specs.declared.Built.{Built}
 use Rattle.denoiser.specs.declared.BuildAnswer.{BuildAnswer}
 use Rattle.denoiser.specs.Grid.{gridSide, unitOf}
 use Rattle.denoiser.specs.Window.{Other, Scene, Window, Rule, gate, centreAt, shareOf, totalAt, sumAt, denoisedAt, acceptedIn, acceptedBlocks}
-use Rattle.denoiser.specs.Demand.{Held, SampleIs, Demand3}
-use Rattle.denoiser.specs.Build.{Request, BuildInput, givenOf, sceneOf, windowOf, cropped, filled, builtOf, samplesOf, outcomeOf, outputAfter, workingAfter, LeavesBy, BuildBy}
+use Rattle.denoiser.specs.Demand.{Held, Demand3}
+use Rattle.denoiser.specs.Build.{BuildInput, givenOf, sceneOf, windowOf, cropped, filled, builtOf, samplesOf, outcomeOf, outputAfter, workingAfter, BuildBy}
 
 -- a frame is accepted at the same blocks, displaced to the same samples and weighed alike
 pub record Alike {F : Type 0} (p q : Rule F) (f : F) : Type 0 where

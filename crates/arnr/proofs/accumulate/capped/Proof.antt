@@ -1,7 +1,6 @@
 -- `arnr::accumulate::capped` meets its contract: the first e weights are cut. Assumes nothing.
-use mathlib.Core.Path.{_≡_}
 use mathlib.Core.Logic.{⊎-elim}
-use Prim.Native.Nat.{ℕ, _-_, _≤_, _<_, min}
+use Prim.Native.Nat.{ℕ, _-_, min}
 use native.Mathlib.Omega.{arith}
 use lib.ListN.{getD, length-replicate}
 use borrow.Author.Needs.{needs}
