@@ -1,7 +1,9 @@
 // What the other frames add to the sums and the total weights, in three planes that lie one after the other in the working slices.
+use crate::half;
 use crate::sad;
 use crate::search;
 use denoiser::Block;
+use denoiser::Choice;
 use denoiser::Displacement;
 use denoiser::Motion;
 use denoiser::PlaneNumbers;
@@ -17,9 +19,10 @@ ghost use Rattle.prediction.specs.Plane.{sampleAt};
 ghost use Rattle.window.specs.Layout.{sideOf, offsetOf, packedSize};
 ghost use Rattle.denoiser.specs.Grid.{gridBlock, gridSide, blockIn, unitOf};
 ghost use Rattle.denoiser.specs.Search.{displacedBy, displacementIn};
+ghost use Rattle.denoiser.specs.Chroma.{halfSample, sampleIn};
 ghost use Rattle.denoiser.specs.Window.{gate, costOf, displacementOf, sadAccepted, blockAccepted, acceptedIn};
 ghost use Rattle.denoiser.specs.Pictures.{pictureOf, othersOf};
-ghost use Rattle.denoiser.specs.Internal.{Fits, Whole, Short, Span, Lies, Lent, Slack, Light, Frames, Measured, Raised, Placed, Spread, within, between, rowShare, rowTerm, shareBy, termBy, planeIn, packedPlane, numbersOf, packedPicture, packedScene, curveRule, curveShare, curveTerm, cappedCurve, otherShare, otherTerm, otherBlocks};
+ghost use Rattle.denoiser.specs.Internal.{Fits, Whole, Short, Span, Lies, Lent, Slack, Light, Frames, Measured, Raised, Placed, Spread, within, between, rowShare, rowTerm, shareBy, termBy, planeIn, packedPlane, numbersOf, packedPicture, packedScene, blockSamples, filteredIn, curveRule, curveShare, curveTerm, cappedCurve, otherShare, otherTerm, otherBlocks};
 
 // The weight of a displaced sample against the centre's.
 fn share(curve: &[u32; 256], d: u8, c: u8) -> u32
@@ -275,12 +278,158 @@ fn blend_in(
     blend_block(bytes, p, c, e, curve, at, out, sums, weights);
 }
 
+// Row r of a block of 8 by 8, as much of it as b covers, in the plane that stands packed from `at` on.
+fn blend_line(
+    block: &[u8],
+    p: PlaneNumbers,
+    b: Block,
+    r: usize,
+    curve: &[u32; 256],
+    at: usize,
+    out: &[u8],
+    sums: &mut [u32],
+    weights: &mut [u32],
+)
+    requires { ⌜ (length (now block) ≡ 64) × (r < 8) × (b .columns ≤ 8) ⌝ }
+    requires { ⌜ Span (p .columns) (p .rows) (b .x) (b .y + r) (b .columns) ⌝ }
+    requires { ⌜ Lent (at + p .columns * p .rows) (now out) (now sums) (now weights) ⌝ }
+    requires { ⌜ Light (now curve) ⌝ }
+    requires { ⌜ Slack 1 (now sums) (now weights) ⌝ }
+    ensures { λ _. ⌜ Placed at (p .columns) (p .rows) (λ i j. gate (eqb j (b .y + r)) (gate (between (b .x) (b .columns) i) (termBy (now (curve .entry))
+        (sampleAt (packedPlane at (p .columns) (p .rows) (now (out .entry)))) (blockSamples (now (block .entry)) (b .x) (b .y)) i j)))
+        (now (sums .entry)) (now (sums .exit)) ⌝ }
+    ensures { λ _. ⌜ Placed at (p .columns) (p .rows) (λ i j. gate (eqb j (b .y + r)) (gate (between (b .x) (b .columns) i) (shareBy (now (curve .entry))
+        (sampleAt (packedPlane at (p .columns) (p .rows) (now (out .entry)))) (blockSamples (now (block .entry)) (b .x) (b .y)) i j)))
+        (now (weights .entry)) (now (weights .exit)) ⌝ }
+{
+    let n = b.columns;
+    let first = 8 * r;
+    let from = at + (b.y + r) * p.columns + b.x;
+    let to = from + n;
+    blend_row(
+        &out[from..to],
+        &block[first..first + n],
+        curve,
+        &mut sums[from..to],
+        &mut weights[from..to],
+    );
+}
+
+// A block of 8 by 8, as much of it as b covers.
+fn blend_square(
+    block: &[u8],
+    p: PlaneNumbers,
+    b: Block,
+    curve: &[u32; 256],
+    at: usize,
+    out: &[u8],
+    sums: &mut [u32],
+    weights: &mut [u32],
+)
+    requires { ⌜ (length (now block) ≡ 64) × (0 < p .columns) × (b .columns ≤ 8) × (b .rows ≤ 8) ⌝ }
+    requires { ⌜ Lies b (p .columns) (p .rows) ⌝ }
+    requires { ⌜ Lent (at + p .columns * p .rows) (now out) (now sums) (now weights) ⌝ }
+    requires { ⌜ Light (now curve) ⌝ }
+    requires { ⌜ Slack 2 (now sums) (now weights) ⌝ }
+    ensures { λ _. ⌜ Placed at (p .columns) (p .rows) (λ i j. gate (within b i j) (termBy (now (curve .entry)) (sampleAt (packedPlane at (p .columns)
+        (p .rows) (now (out .entry)))) (blockSamples (now (block .entry)) (b .x) (b .y)) i j)) (now (sums .entry)) (now (sums .exit)) ⌝ }
+    ensures { λ _. ⌜ Placed at (p .columns) (p .rows) (λ i j. gate (within b i j) (shareBy (now (curve .entry)) (sampleAt (packedPlane at (p .columns)
+        (p .rows) (now (out .entry)))) (blockSamples (now (block .entry)) (b .x) (b .y)) i j)) (now (weights .entry)) (now (weights .exit)) ⌝ }
+{
+    let high = b.rows;
+    let mut r = 0;
+    while r < high {
+        blend_line(block, p, b, r, curve, at, out, sums, weights);
+        r += 1;
+    }
+}
+
+// One block of a frame in U or V at the half samples of its displacement: filtered once, and added.
+fn blend_half(
+    bytes: &[u8],
+    f: Frame,
+    k: usize,
+    b: Block,
+    d: Displacement,
+    curve: &[u32; 256],
+    out: &[u8],
+    sums: &mut [u32],
+    weights: &mut [u32],
+)
+    requires { ⌜ (0 < k) × (k < 3) × Whole (now bytes) f ⌝ }
+    requires { ⌜ Lies b (f .width) (f .height) ⌝ }
+    requires { ⌜ Short d ⌝ }
+    requires { ⌜ Lent (packedSize (f .width) (f .height)) (now out) (now sums) (now weights) ⌝ }
+    requires { ⌜ Light (now curve) ⌝ }
+    requires { ⌜ Slack 2 (now sums) (now weights) ⌝ }
+    ensures { λ _. ⌜ Placed (offsetOf k (f .width) (f .height)) (sideOf k (f .width)) (sideOf k (f .height)) (λ x y. gate (within (blockIn k b) x y)
+        (termBy (now (curve .entry)) (packedPicture (f .width) (f .height) (now (out .entry)) k) (halfSample d (pictureOf
+        (now (bytes .entry)) f k)) x y)) (now (sums .entry)) (now (sums .exit)) ⌝ }
+    ensures { λ _. ⌜ Placed (offsetOf k (f .width) (f .height)) (sideOf k (f .width)) (sideOf k (f .height)) (λ x y. gate (within (blockIn k b) x y)
+        (shareBy (now (curve .entry)) (packedPicture (f .width) (f .height) (now (out .entry)) k) (halfSample d (pictureOf
+        (now (bytes .entry)) f k)) x y)) (now (weights .entry)) (now (weights .exit)) ⌝ }
+{
+    let p = plane_of(f, k);
+    let at = offset_of(f.width as usize, f.height as usize, k);
+    let c = block_in(k, b);
+    let block = half::block(bytes, p, c.x, c.y, d);
+    blend_square(&block, p, c, curve, at, out, sums, weights);
+}
+
+// Whether the block of plane k is filtered: in U and V, by half samples, where a component of the displacement is odd.
+fn filters(k: usize, d: Displacement, choice: Choice) -> bool
+    requires { ⌜ Short d ⌝ }
+    ensures { λ r. ⌜ r ≡ filteredIn (choice .«half_sample») k d ⌝ }
+{
+    if k == 0 {
+        return false;
+    }
+    if choice.half_sample {
+        return 0 < half::row(d.dx) + half::row(d.dy);
+    }
+    false
+}
+
+// One block of a frame at its displacement, in plane k, by the choice.
+fn blend_plane(
+    bytes: &[u8],
+    f: Frame,
+    k: usize,
+    b: Block,
+    d: Displacement,
+    choice: Choice,
+    curve: &[u32; 256],
+    out: &[u8],
+    sums: &mut [u32],
+    weights: &mut [u32],
+)
+    requires { ⌜ (k < 3) × Whole (now bytes) f ⌝ }
+    requires { ⌜ Lies b (f .width) (f .height) ⌝ }
+    requires { ⌜ Short d ⌝ }
+    requires { ⌜ Lent (packedSize (f .width) (f .height)) (now out) (now sums) (now weights) ⌝ }
+    requires { ⌜ Light (now curve) ⌝ }
+    requires { ⌜ Slack 2 (now sums) (now weights) ⌝ }
+    ensures { λ _. ⌜ Placed (offsetOf k (f .width) (f .height)) (sideOf k (f .width)) (sideOf k (f .height)) (λ x y. gate (within (blockIn k b) x y)
+        (termBy (now (curve .entry)) (packedPicture (f .width) (f .height) (now (out .entry)) k) (sampleIn (choice .«half_sample») k d (pictureOf
+        (now (bytes .entry)) f k)) x y)) (now (sums .entry)) (now (sums .exit)) ⌝ }
+    ensures { λ _. ⌜ Placed (offsetOf k (f .width) (f .height)) (sideOf k (f .width)) (sideOf k (f .height)) (λ x y. gate (within (blockIn k b) x y)
+        (shareBy (now (curve .entry)) (packedPicture (f .width) (f .height) (now (out .entry)) k) (sampleIn (choice .«half_sample») k d (pictureOf
+        (now (bytes .entry)) f k)) x y)) (now (weights .entry)) (now (weights .exit)) ⌝ }
+{
+    if filters(k, d, choice) {
+        blend_half(bytes, f, k, b, d, curve, out, sums, weights);
+    } else {
+        blend_in(bytes, f, k, b, d, curve, out, sums, weights);
+    }
+}
+
 // One block of a frame at its displacement, in all three planes.
 fn blend_planes(
     bytes: &[u8],
     f: Frame,
     b: Block,
     d: Displacement,
+    choice: Choice,
     curve: &[u32; 256],
     out: &[u8],
     sums: &mut [u32],
@@ -293,15 +442,15 @@ fn blend_planes(
     requires { ⌜ Light (now curve) ⌝ }
     requires { ⌜ Slack 4 (now sums) (now weights) ⌝ }
     ensures { λ _. ⌜ Spread (f .width) (f .height) (λ k x y. gate (within (blockIn k b) x y) (termBy (now (curve .entry)) (packedPicture (f .width)
-        (f .height) (now (out .entry)) k) (displacedBy (displacementIn k d) (pictureOf (now (bytes .entry)) f k)) x y)) (now (sums .entry))
+        (f .height) (now (out .entry)) k) (sampleIn (choice .«half_sample») k d (pictureOf (now (bytes .entry)) f k)) x y)) (now (sums .entry))
         (now (sums .exit)) ⌝ }
     ensures { λ _. ⌜ Spread (f .width) (f .height) (λ k x y. gate (within (blockIn k b) x y) (shareBy (now (curve .entry)) (packedPicture (f .width)
-        (f .height) (now (out .entry)) k) (displacedBy (displacementIn k d) (pictureOf (now (bytes .entry)) f k)) x y)) (now (weights .entry))
+        (f .height) (now (out .entry)) k) (sampleIn (choice .«half_sample») k d (pictureOf (now (bytes .entry)) f k)) x y)) (now (weights .entry))
         (now (weights .exit)) ⌝ }
 {
-    blend_in(bytes, f, 0, b, d, curve, out, sums, weights);
-    blend_in(bytes, f, 1, b, d, curve, out, sums, weights);
-    blend_in(bytes, f, 2, b, d, curve, out, sums, weights);
+    blend_plane(bytes, f, 0, b, d, choice, curve, out, sums, weights);
+    blend_plane(bytes, f, 1, b, d, choice, curve, out, sums, weights);
+    blend_plane(bytes, f, 2, b, d, choice, curve, out, sums, weights);
 }
 
 // The last best of the block in row i and column j of the grid.
@@ -323,6 +472,7 @@ fn blend_at(
     f: Frame,
     i: usize,
     j: usize,
+    choice: Choice,
     curve: &[u32; 256],
     out: &[u8],
     sums: &mut [u32],
@@ -334,16 +484,26 @@ fn blend_at(
     requires { ⌜ Light (now curve) ⌝ }
     requires { ⌜ Slack 4 (now sums) (now weights) ⌝ }
     ensures { λ r. ⌜ r ≡ gate (blockAccepted (packedScene (f .width) (f .height) (now (out .entry))) (pictureOf (now (bytes .entry)) f) i j) 1 ⌝ }
-    ensures { λ _. ⌜ Spread (f .width) (f .height) (λ k x y. gate (eqb (y / unitOf k) i) (gate (eqb (x / unitOf k) j) (curveTerm (now (curve .entry))
+    ensures { λ _. ⌜ Spread (f .width) (f .height) (λ k x y. gate (eqb (y / unitOf k) i) (gate (eqb (x / unitOf k) j) (curveTerm choice (now (curve .entry))
         (packedScene (f .width) (f .height) (now (out .entry))) (pictureOf (now (bytes .entry)) f) k x y))) (now (sums .entry)) (now (sums .exit)) ⌝ }
-    ensures { λ _. ⌜ Spread (f .width) (f .height) (λ k x y. gate (eqb (y / unitOf k) i) (gate (eqb (x / unitOf k) j) (curveShare (now (curve .entry))
+    ensures { λ _. ⌜ Spread (f .width) (f .height) (λ k x y. gate (eqb (y / unitOf k) i) (gate (eqb (x / unitOf k) j) (curveShare choice (now (curve .entry))
         (packedScene (f .width) (f .height) (now (out .entry))) (pictureOf (now (bytes .entry)) f) k x y))) (now (weights .entry))
         (now (weights .exit)) ⌝ }
 {
     let b = grid_block(f.width as usize, f.height as usize, i, j);
     let m = motion_at(bytes, f, i, j, out);
     if accepts(b, m.sad) {
-        blend_planes(bytes, f, b, m.displacement, curve, out, sums, weights);
+        blend_planes(
+            bytes,
+            f,
+            b,
+            m.displacement,
+            choice,
+            curve,
+            out,
+            sums,
+            weights,
+        );
         1
     } else {
         0
@@ -355,6 +515,7 @@ fn blend_grid_row(
     bytes: &[u8],
     f: Frame,
     i: usize,
+    choice: Choice,
     curve: &[u32; 256],
     out: &[u8],
     sums: &mut [u32],
@@ -367,16 +528,16 @@ fn blend_grid_row(
     requires { ⌜ Slack 5 (now sums) (now weights) ⌝ }
     ensures { λ r. ⌜ (r ≡ sumBelow (λ j. gate (blockAccepted (packedScene (f .width) (f .height) (now (out .entry))) (pictureOf (now (bytes .entry)) f) i j) 1)
         (gridSide (f .width))) × (r ≤ gridSide (f .width)) ⌝ }
-    ensures { λ _. ⌜ Spread (f .width) (f .height) (λ k x y. gate (eqb (y / unitOf k) i) (curveTerm (now (curve .entry)) (packedScene (f .width)
+    ensures { λ _. ⌜ Spread (f .width) (f .height) (λ k x y. gate (eqb (y / unitOf k) i) (curveTerm choice (now (curve .entry)) (packedScene (f .width)
         (f .height) (now (out .entry))) (pictureOf (now (bytes .entry)) f) k x y)) (now (sums .entry)) (now (sums .exit)) ⌝ }
-    ensures { λ _. ⌜ Spread (f .width) (f .height) (λ k x y. gate (eqb (y / unitOf k) i) (curveShare (now (curve .entry)) (packedScene (f .width)
+    ensures { λ _. ⌜ Spread (f .width) (f .height) (λ k x y. gate (eqb (y / unitOf k) i) (curveShare choice (now (curve .entry)) (packedScene (f .width)
         (f .height) (now (out .entry))) (pictureOf (now (bytes .entry)) f) k x y)) (now (weights .entry)) (now (weights .exit)) ⌝ }
 {
     let columns = (f.width as usize + 15) / 16;
     let mut count: u32 = 0;
     let mut j = 0;
     while j < columns {
-        count += blend_at(bytes, f, i, j, curve, out, sums, weights);
+        count += blend_at(bytes, f, i, j, choice, curve, out, sums, weights);
         j += 1;
     }
     count
@@ -386,6 +547,7 @@ fn blend_grid_row(
 fn blend_frame(
     bytes: &[u8],
     f: Frame,
+    choice: Choice,
     curve: &[u32; 256],
     out: &[u8],
     sums: &mut [u32],
@@ -395,18 +557,18 @@ fn blend_frame(
     requires { ⌜ Lent (packedSize (f .width) (f .height)) (now out) (now sums) (now weights) ⌝ }
     requires { ⌜ Light (now curve) ⌝ }
     requires { ⌜ Slack 6 (now sums) (now weights) ⌝ }
-    ensures { λ r. ⌜ (r ≡ acceptedIn (curveRule (now (curve .entry)) (packedScene (f .width) (f .height) (now (out .entry)))) (packedScene (f .width)
+    ensures { λ r. ⌜ (r ≡ acceptedIn (curveRule choice (now (curve .entry)) (packedScene (f .width) (f .height) (now (out .entry)))) (packedScene (f .width)
         (f .height) (now (out .entry))) (pictureOf (now (bytes .entry)) f)) × (r ≤ 1048576) ⌝ }
-    ensures { λ _. ⌜ Spread (f .width) (f .height) (curveTerm (now (curve .entry)) (packedScene (f .width) (f .height) (now (out .entry)))
+    ensures { λ _. ⌜ Spread (f .width) (f .height) (curveTerm choice (now (curve .entry)) (packedScene (f .width) (f .height) (now (out .entry)))
         (pictureOf (now (bytes .entry)) f)) (now (sums .entry)) (now (sums .exit)) ⌝ }
-    ensures { λ _. ⌜ Spread (f .width) (f .height) (curveShare (now (curve .entry)) (packedScene (f .width) (f .height) (now (out .entry)))
+    ensures { λ _. ⌜ Spread (f .width) (f .height) (curveShare choice (now (curve .entry)) (packedScene (f .width) (f .height) (now (out .entry)))
         (pictureOf (now (bytes .entry)) f)) (now (weights .entry)) (now (weights .exit)) ⌝ }
 {
     let rows = (f.height as usize + 15) / 16;
     let mut count: u32 = 0;
     let mut i = 0;
     while i < rows {
-        count += blend_grid_row(bytes, f, i, curve, out, sums, weights);
+        count += blend_grid_row(bytes, f, i, choice, curve, out, sums, weights);
         i += 1;
     }
     count
@@ -434,6 +596,7 @@ pub(crate) fn blend_frames(
     centre: usize,
     w: usize,
     h: usize,
+    choice: Choice,
     curve: &[u32; 256],
     out: &[u8],
     sums: &mut [u32],
@@ -444,11 +607,11 @@ pub(crate) fn blend_frames(
     requires { ⌜ Lent (packedSize w h) (now out) (now sums) (now weights) ⌝ }
     requires { ⌜ Light (now curve) ⌝ }
     requires { ⌜ Slack 1030 (now sums) (now weights) ⌝ }
-    ensures { λ r. ⌜ r ≡ sumOver (otherBlocks (now (curve .entry)) (packedScene w h (now (out .entry))))
+    ensures { λ r. ⌜ r ≡ sumOver (otherBlocks choice (now (curve .entry)) (packedScene w h (now (out .entry))))
         (othersOf (now (bytes .entry)) (now (numbers .entry)) centre count) ⌝ }
-    ensures { λ _. ⌜ Spread w h (λ k x y. sumOver (λ f. otherTerm (now (curve .entry)) (packedScene w h (now (out .entry))) f k x y) (othersOf
+    ensures { λ _. ⌜ Spread w h (λ k x y. sumOver (λ f. otherTerm choice (now (curve .entry)) (packedScene w h (now (out .entry))) f k x y) (othersOf
         (now (bytes .entry)) (now (numbers .entry)) centre count)) (now (sums .entry)) (now (sums .exit)) ⌝ }
-    ensures { λ _. ⌜ Spread w h (λ k x y. sumOver (λ f. otherShare (now (curve .entry)) (packedScene w h (now (out .entry))) f k x y) (othersOf
+    ensures { λ _. ⌜ Spread w h (λ k x y. sumOver (λ f. otherShare choice (now (curve .entry)) (packedScene w h (now (out .entry))) f k x y) (othersOf
         (now (bytes .entry)) (now (numbers .entry)) centre count)) (now (weights .entry)) (now (weights .exit)) ⌝ }
 {
     let mut total: u32 = 0;
@@ -463,6 +626,7 @@ pub(crate) fn blend_frames(
         total += blend_frame(
             bytes,
             window::frame_at(numbers, g),
+            choice,
             &cut,
             out,
             sums,

@@ -1,5 +1,6 @@
 // The builder: the centre is cropped into the output; the other frames are blended in the working slices; the output is resolved from these.
 use crate::accumulate;
+use denoiser::Choice;
 use denoiser::PlaneNumbers;
 use window::Frame;
 ghost use mathlib.Core.Path.{_≡_};
@@ -11,6 +12,7 @@ ghost use Rattle.weights.specs.Blend.{denoised};
 ghost use Rattle.window.specs.Layout.{sideOf, offsetOf, packedSize};
 ghost use Rattle.denoiser.specs.Pictures.{pictureOf};
 ghost use Rattle.denoiser.specs.Window.{centreAt};
+ghost use Rattle.denoiser.specs.Chroma.{ruleOf};
 ghost use Rattle.denoiser.specs.Build.{asked, sceneOf};
 ghost use Rattle.denoiser.specs.Internal.{Fits, Whole, Lent, Exact, Front, Stored, Shows, Ready, Legal, Blended, Made, planeIn};
 
@@ -112,6 +114,7 @@ fn blend(
     numbers: &[u32],
     centre: usize,
     strength: u8,
+    choice: Choice,
     w: usize,
     h: usize,
     output: &mut [u8],
@@ -121,7 +124,7 @@ fn blend(
     requires { ⌜ Legal (asked (now bytes) (now numbers) centre strength) w h ⌝ }
     requires { ⌜ Exact (packedSize w h) (now output) (now sums) (now weights) ⌝ }
     requires { ⌜ Shows w h (centreAt (sceneOf (asked (now bytes) (now numbers) centre strength))) (now output) ⌝ }
-    ensures { λ r. ⌜ Blended (asked (now (bytes .entry)) (now (numbers .entry)) centre strength) w h r (record {
+    ensures { λ r. ⌜ Blended (ruleOf choice) (asked (now (bytes .entry)) (now (numbers .entry)) centre strength) w h r (record {
       output = now (output .exit);
       sums = now (sums .exit);
       weights = now (weights .exit);
@@ -138,6 +141,7 @@ fn blend(
         centre,
         w,
         h,
+        choice,
         &curve,
         output,
         sums,
@@ -153,6 +157,7 @@ pub(crate) fn make(
     numbers: &[u32],
     centre: usize,
     strength: u8,
+    choice: Choice,
     w: usize,
     h: usize,
     output: &mut [u8],
@@ -161,7 +166,7 @@ pub(crate) fn make(
 ) -> u32
     requires { ⌜ Legal (asked (now bytes) (now numbers) centre strength) w h ⌝ }
     requires { ⌜ Lent (packedSize w h) (now output) (now sums) (now weights) ⌝ }
-    ensures { λ r. ⌜ Made (asked (now (bytes .entry)) (now (numbers .entry)) centre strength) (record {
+    ensures { λ r. ⌜ Made (ruleOf choice) (asked (now (bytes .entry)) (now (numbers .entry)) centre strength) (record {
       output = now (output .entry);
       sums = now (sums .entry);
       weights = now (weights .entry);
@@ -185,6 +190,7 @@ pub(crate) fn make(
         numbers,
         centre,
         strength,
+        choice,
         w,
         h,
         &mut output[..n],

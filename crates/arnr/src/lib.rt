@@ -1,26 +1,30 @@
 // Motion-compensated temporal filtering: a denoised picture from a window of frames.
 mod accumulate;
 mod build;
+mod half;
 mod sad;
 mod search;
 
 use denoiser::BuildAnswer;
 use denoiser::Built;
+use denoiser::Choice;
 use weights::ArnrConfig;
 use window::Checked;
-ghost use Rattle.denoiser.specs.Build.{BuildIs, asked};
+ghost use Rattle.denoiser.specs.Chroma.{ruleOf};
+ghost use Rattle.denoiser.specs.Build.{BuildBy, BuildIs, BuildHalf, asked};
 
-// The builder over the numbers of the frames: eight for each, numbers left over are not read.
-pub fn build_from_numbers(
+// Both builders: the checks, and what an accepted call makes by the choice.
+fn build_by(
     bytes: &[u8],
     numbers: &[u32],
     centre: usize,
     config: ArnrConfig,
+    choice: Choice,
     output: &mut [u8],
     sums: &mut [u32],
     weights: &mut [u32],
 ) -> BuildAnswer
-    ensures { λ r. ⌜ BuildIs (record {
+    ensures { λ r. ⌜ BuildBy (ruleOf choice) (record {
       request = asked (now (bytes .entry)) (now (numbers .entry)) centre (config .strength);
       lent = record {
         output = now (output .entry);
@@ -51,6 +55,7 @@ pub fn build_from_numbers(
                 numbers,
                 centre,
                 config.strength,
+                choice,
                 width as usize,
                 height as usize,
                 output,
@@ -64,4 +69,76 @@ pub fn build_from_numbers(
             })
         }
     }
+}
+
+// The builder over the numbers of the frames: eight for each, numbers left over are not read.
+pub fn build_from_numbers(
+    bytes: &[u8],
+    numbers: &[u32],
+    centre: usize,
+    config: ArnrConfig,
+    output: &mut [u8],
+    sums: &mut [u32],
+    weights: &mut [u32],
+) -> BuildAnswer
+    ensures { λ r. ⌜ BuildIs (record {
+      request = asked (now (bytes .entry)) (now (numbers .entry)) centre (config .strength);
+      lent = record {
+        output = now (output .entry);
+        sums = now (sums .entry);
+        weights = now (weights .entry);
+      };
+    }) r (record {
+      output = now (output .exit);
+      sums = now (sums .exit);
+      weights = now (weights .exit);
+    }) ⌝ }
+{
+    let choice = Choice { half_sample: false };
+    build_by(
+        bytes,
+        numbers,
+        centre,
+        config,
+        choice,
+        output,
+        sums,
+        weights,
+    )
+}
+
+// The same with half samples in U and V.
+pub fn build_half_sample(
+    bytes: &[u8],
+    numbers: &[u32],
+    centre: usize,
+    config: ArnrConfig,
+    output: &mut [u8],
+    sums: &mut [u32],
+    weights: &mut [u32],
+) -> BuildAnswer
+    ensures { λ r. ⌜ BuildHalf (record {
+      request = asked (now (bytes .entry)) (now (numbers .entry)) centre (config .strength);
+      lent = record {
+        output = now (output .entry);
+        sums = now (sums .entry);
+        weights = now (weights .entry);
+      };
+    }) r (record {
+      output = now (output .exit);
+      sums = now (sums .exit);
+      weights = now (weights .exit);
+    }) ⌝ }
+{
+    let choice = Choice { half_sample: true };
+    build_by(
+        bytes,
+        numbers,
+        centre,
+        config,
+        choice,
+        output,
+        sums,
+        weights,
+    )
 }

@@ -16,11 +16,11 @@ ghost use Rattle.prediction.specs.Plane.{sampleAt, nearestIn};
 ghost use Rattle.prediction.specs.Ceiled.{CeiledIs};
 ghost use Rattle.prediction.specs.Internal.{rowApart};
 ghost use Rattle.denoiser.specs.Search.{displacedBy, still};
-ghost use Rattle.denoiser.specs.Internal.{Fits, Short, Span, Runs, Lies, planeIn, packedPlane, rowDistance, lumaRow};
+ghost use Rattle.denoiser.specs.Internal.{Fits, Short, Span, Near, Runs, Lies, planeIn, packedPlane, rowDistance, lumaRow};
 
 // The coordinate nearest to x + d among 0 .. n - 1.
 fn edge(x: usize, d: i32, n: usize) -> usize
-    requires { ⌜ (x < n) × (n ≤ 16383) × (above d ≤ 15) × (below d ≤ 15) ⌝ }
+    requires { ⌜ (x < 16400) × (0 < n) × (n ≤ 16383) × (above d ≤ 15) × (below d ≤ 15) ⌝ }
     ensures { λ r. ⌜ r ≡ nearestIn n (pos x +ℤ d) ⌝ }
 {
     let at = (x as i32) + d;
@@ -34,7 +34,7 @@ fn edge(x: usize, d: i32, n: usize) -> usize
 // A displaced sample of a plane.
 fn displaced(bytes: &[u8], p: PlaneNumbers, x: usize, y: usize, d: Displacement) -> u8
     requires { ⌜ Fits (now bytes) p ⌝ }
-    requires { ⌜ (x < p .columns) × (y < p .rows) ⌝ }
+    requires { ⌜ (x < 16400) × (y < 16400) ⌝ }
     requires { ⌜ Short d ⌝ }
     ensures { λ r. ⌜ r ≡ displacedBy d (sampleAt (planeIn (now (bytes .entry)) p)) (pos x) (pos y) ⌝ }
 {
@@ -54,7 +54,7 @@ fn edge_row(
     d: Displacement,
 ) -> [u8; 16]
     requires { ⌜ Fits (now bytes) p ⌝ }
-    requires { ⌜ Span (p .columns) (p .rows) x y n ⌝ }
+    requires { ⌜ Near x y n ⌝ }
     requires { ⌜ Short d ⌝ }
     ensures { λ r. ⌜ ((k : ℕ) → k < n → getD r k 0 ≡ displacedBy d (sampleAt (planeIn (now (bytes .entry)) p)) (pos (x + k)) (pos y)) ⌝ }
 {
@@ -69,7 +69,7 @@ fn edge_row(
 
 // Whether there are columns, n of them from x on, and all lie in the plane once moved by d.
 fn runs_inside(x: usize, n: usize, d: i32, columns: usize) -> bool
-    requires { ⌜ (x + n ≤ columns) × (columns ≤ 16383) × (above d ≤ 15) × (below d ≤ 15) ⌝ }
+    requires { ⌜ (x < 16400) × (n ≤ 16) × (columns ≤ 16383) × (above d ≤ 15) × (below d ≤ 15) ⌝ }
     ensures { λ r. ⌜ (r ≡ true → Runs x n d columns) ⌝ }
 {
     if n == 0 {
@@ -120,7 +120,7 @@ pub(crate) fn displaced_row(
     d: Displacement,
 ) -> [u8; 16]
     requires { ⌜ Fits (now bytes) p ⌝ }
-    requires { ⌜ Span (p .columns) (p .rows) x y n ⌝ }
+    requires { ⌜ Near x y n ⌝ }
     requires { ⌜ Short d ⌝ }
     ensures { λ r. ⌜ ((k : ℕ) → k < n → getD r k 0 ≡ displacedBy d (sampleAt (planeIn (now (bytes .entry)) p)) (pos (x + k)) (pos y)) ⌝ }
 {

@@ -21,7 +21,9 @@ use Rattle.window.proofs.Built as window
 use Rattle.denoiser.specs.declared.Built.{Built}
 use Rattle.denoiser.specs.declared.BuildAnswer.{BuildAnswer}
 use Rattle.denoiser.specs.declared.BuildAnswer.the-variants.{Done, Refused}
-use Rattle.denoiser.specs.Window.{Scene, Rule, sumAt, totalAt, denoisedAt, arnrRule}
+use Rattle.denoiser.specs.Window.{Other, Scene, Rule}
+use Rattle.denoiser.specs.declared.Choice.{Choice}
+use Rattle.denoiser.specs.Chroma.{ruleOf}
 use Rattle.denoiser.specs.Demand.{Held, Demand3}
 use Rattle.denoiser.specs.Build.{Request, BuildInput, givenOf, sceneOf, windowOf, cropped, filled, builtOf, samplesOf, outcomeOf, buildOutcome, outputAfter, workingAfter, BuildBy}
 use Rattle.denoiser.specs.Internal.{Fits, Whole, Frames, Lent, Legal, Made, numbersOf}
@@ -75,25 +77,25 @@ never (PlaneUnfit g) a e = laws.never 5 _ a e
 never ShortOutput a e = laws.never 6 [] a e
 never ShortWorking a e = laws.never 7 [] a e
 
-module _ (b : BuildInput) where
-  refused-outcome : (r : Refusal) → refusalOutcome r ≡ checks (givenOf b) → refusalOutcome r ≡ outcomeOf arnrRule b
+module _ (o : Choice) (b : BuildInput) where
+  refused-outcome : (r : Refusal) → refusalOutcome r ≡ checks (givenOf b) → refusalOutcome r ≡ outcomeOf (ruleOf o) b
   unfolding checks outcomeOf
   refused-outcome r e =
-      sym (retag-refusal r (builtOf arnrRule (b .request))) ∙ ap (retag (builtOf arnrRule (b .request))) e
-      ∙ retag-lines (buildLines (givenOf b)) _ (builtOf arnrRule (b .request))
+      sym (retag-refusal r (builtOf (ruleOf o) (b .request))) ∙ ap (retag (builtOf (ruleOf o) (b .request))) e
+      ∙ retag-lines (buildLines (givenOf b)) _ (builtOf (ruleOf o) (b .request))
 
-  pub refused-is : (c : Checked) (r : Refusal) → checkedOutcome c ≡ checks (givenOf b) → c ≡ checked.Refused r → BuildBy arnrRule b (Refused r) (b .lent)
+  pub refused-is : (c : Checked) (r : Refusal) → checkedOutcome c ≡ checks (givenOf b) → c ≡ checked.Refused r → BuildBy (ruleOf o) b (Refused r) (b .lent)
   unfolding outputAfter workingAfter
   refused-is c r e k =
-      let o = refused-outcome r (sym (ap checkedOutcome k) ∙ e) in
+      let e′ = refused-outcome r (sym (ap checkedOutcome k) ∙ e) in
       record {
-        answer = o;
+        answer = e′;
         slices =
             record {
-              output = rw (sym o) (after-refusal r (b .lent .output) _);
-              sums = rw (sym o) (after-refusal r (b .lent .sums) _);
-              weights = rw (sym o) (after-refusal r (b .lent .weights) _);
-              demand3 = λ a p t. absurd (never r a (o ∙ p));
+              output = rw (sym e′) (after-refusal r (b .lent .output) _);
+              sums = rw (sym e′) (after-refusal r (b .lent .sums) _);
+              weights = rw (sym e′) (after-refusal r (b .lent .weights) _);
+              demand3 = λ a p t. absurd (never r a (e′ ∙ p));
             };
       }
 
@@ -129,36 +131,36 @@ module _ (b : BuildInput) where
     pub lent : Lent (packedSize (s .width) (s .height)) (b .lent .output) (b .lent .sums) (b .lent .weights)
     lent = let f = facts in record { in-out = f .output; in-sums = f .sums; in-weights = f .weights }
 
-    done-outcome : accepted (builtOf arnrRule (b .request)) ≡ outcomeOf arnrRule b
+    done-outcome : accepted (builtOf (ruleOf o) (b .request)) ≡ outcomeOf (ruleOf o) b
     unfolding checks outcomeOf retag
     done-outcome =
-        ap (retag (builtOf arnrRule (b .request))) (sym (ap checkedOutcome k) ∙ e) ∙ retag-lines (buildLines (givenOf b)) _ (builtOf arnrRule (b .request))
+        ap (retag (builtOf (ruleOf o) (b .request))) (sym (ap checkedOutcome k) ∙ e) ∙ retag-lines (buildLines (givenOf b)) _ (builtOf (ruleOf o) (b .request))
 
-    same-built : (n : ℕ) → n ≡ builtOf arnrRule (b .request) .accepted → _≡_ {A = Built} (record { width = s .width; height = s .height; accepted = n }) (builtOf arnrRule (b .request))
+    same-built : (n : ℕ) → n ≡ builtOf (ruleOf o) (b .request) .accepted → _≡_ {A = Built} (record { width = s .width; height = s .height; accepted = n }) (builtOf (ruleOf o) (b .request))
     unfolding builtOf sceneOf
     same-built n p =
         let f = facts in
         ap (λ (t : Size). record { width = t .width; height = t .height; accepted = n }) (f .size)
         ∙ ap (λ (t : ℕ). record { width = centreOf (givenOf b) .width; height = centreOf (givenOf b) .height; accepted = t }) p
 
-    module _ (n : ℕ) (held : Held) (made : Made (b .request) (b .lent) n held) (byte : (i : ℕ) → getD (b .request .bytes) i 0 < 256) where
-      demand : cropped (b .request) ≡ false → Demand3 (arnrRule (sceneOf (b .request))) (windowOf (b .request)) held
+    module _ (n : ℕ) (held : Held) (made : Made (ruleOf o) (b .request) (b .lent) n held) (byte : (i : ℕ) → getD (b .request .bytes) i 0 < 256) where
+      demand : cropped (b .request) ≡ false → Demand3 (ruleOf o (sceneOf (b .request))) (windowOf (b .request)) held
       unfolding samplesOf windowOf
       demand t =
-          demand-3 (arnrRule (sceneOf (b .request))) (windowOf (b .request)) (window-fair (b .request) (s .width) (s .height) legal byte) (window-byte (b .request) (s .width) (s .height) legal byte)
+          demand-3 (ruleOf o (sceneOf (b .request))) (windowOf (b .request)) (window-fair o (b .request) (s .width) (s .height) legal byte) (window-byte o (b .request) (s .width) (s .height) legal byte)
           (b .lent) held (rw t at (made .output)) (rw t at (made .sums)) (rw t at (made .weights))
 
-      pub done-is : BuildBy arnrRule b (Done (record { width = s .width; height = s .height; accepted = n })) held
+      pub done-is : BuildBy (ruleOf o) b (Done (record { width = s .width; height = s .height; accepted = n })) held
       unfolding outputAfter workingAfter
       done-is =
-          let o = done-outcome in
+          let e′ = done-outcome in
           record {
-            answer = ap accepted (same-built n (made .accepted)) ∙ o;
+            answer = ap accepted (same-built n (made .accepted)) ∙ e′;
             slices =
                 record {
-                  output = rw (sym o) (made .output);
-                  sums = rw (sym o) (made .sums);
-                  weights = rw (sym o) (made .weights);
+                  output = rw (sym e′) (made .output);
+                  sums = rw (sym e′) (made .sums);
+                  weights = rw (sym e′) (made .weights);
                   demand3 = λ a p t. demand t;
                 };
           }

@@ -1,6 +1,6 @@
 -- Claims of document 01 on the grid, the block search, chroma halves, acceptance and shares, each a law; how large sums and
--- totals can be; and the claims of request 7 on caps. Assumes nothing.
-use mathlib.Core.Path.{_≡_, refl, sym, ap, _∙_, fun-ext, subst⁻¹}
+-- totals can be; and the claims of request 7 on caps and of request 6 on half samples. Assumes nothing.
+use mathlib.Core.Path.{_≡_, refl, sym, ap, _∙_, fun-ext, subst, subst⁻¹}
 use mathlib.Core.Bool.{true, false}
 use mathlib.Core.List.{List, [], _∷_, _++_}
 use mathlib.Core.Logic.{⊎-elim}
@@ -8,7 +8,7 @@ use Prim.Native.Nat.{ℕ, zero, suc, _+_, _*_, _/_, _≤_, _<_, min}
 use native.Mathlib.Nat.{le-trans}
 use native.Mathlib.Omega.{arith}
 use borrow.Author.Tests.{lt-ltb, le-ltb}
-use lib.IntN.{ℤ}
+use lib.IntN.{ℤ, pos}
 use lib.ListN.{length, getD}
 use Rattle.laws.specs.Signed.{above, below}
 use Rattle.laws.proofs.Signed.{quot}
@@ -34,10 +34,12 @@ use Rattle.denoiser.specs.Grid.{gridBlock, gridSide, blockIn, unitOf}
 use Rattle.denoiser.specs.Search.{measuredBy, blockSearch, displacementIn}
 use Rattle.denoiser.specs.Internal.{stepBest, Reach, Short}
 use Rattle.denoiser.specs.Window.{Picture, Other, Scene, Rule, gate, centreAt, shareOf, totalAt, sumAt, acceptedIn, acceptedBlocks}
-use Rattle.denoiser.specs.Window.{displacementOf, sadAccepted, blockAccepted, displacedAt, arnrRule, plainRule}
+use Rattle.denoiser.specs.Window.{Window, denoisedAt, displacementOf, sadAccepted, blockAccepted, displacedAt, arnrRule, plainRule}
+use Rattle.denoiser.specs.declared.Choice.{Choice}
+use Rattle.denoiser.specs.Chroma.{sampleIn, chosenSample, ruleOf, wholeSamples, halfRule}
 use Rattle.denoiser.specs.Pictures.{pictureOf, otherOf, othersOf}
 use Rattle.denoiser.specs.Demand.{Held}
-use Rattle.denoiser.specs.Build.{Request, BuildInput, givenOf, centreFrame, sceneOf, windowOf, builtOf, outcomeOf, BuildBy}
+use Rattle.denoiser.specs.Build.{Request, BuildInput, givenOf, centreFrame, sceneOf, windowOf, cropped, builtOf, outcomeOf, BuildBy}
 use Rattle.denoiser.proofs.Answers.{legal}
 use Rattle.denoiser.proofs.Blends.{window-fair, window-byte, window-few}
 use Rattle.denoiser.proofs.Cover.{grid-lies, within-grid}
@@ -45,7 +47,9 @@ use Rattle.denoiser.proofs.Demands.{total-most, sum-most}
 use Rattle.denoiser.proofs.Gates.{gate-most}
 use Rattle.denoiser.proofs.Others.{others-each, others-same}
 use Rattle.denoiser.proofs.Planes.{block-fits}
-use Rattle.denoiser.proofs.Rules.{Alike, build-alike}
+use Rattle.denoiser.proofs.Halves.{Even, half-even}
+use Rattle.denoiser.proofs.Pictures.{picture-byte}
+use Rattle.denoiser.proofs.Rules.{Alike, build-alike, build-cropped}
 use Rattle.denoiser.proofs.Searches.{measured-short, measured-count, search-least, search-one}
 
 -- (x, y) is in the block
@@ -100,21 +104,21 @@ least cost = search-least cost
 pub answer-measured : (cost : Displacement → ℕ) (P : Displacement → Type 0) → Each P (measuredBy cost) → P (blockSearch cost)
 answer-measured cost P e = search-one cost P e
 
--- in an accepted call a total weight is at most 16,384 and a sum at most 4,177,920
-module _ (b : BuildInput) (s : Size) (e : checks (givenOf b) ≡ accepted s) (byte : (i : ℕ) → getD (b .request .bytes) i 0 < 256) (k x y : ℕ) where
-  pub total-limit : totalAt (arnrRule (sceneOf (b .request))) (windowOf (b .request)) k x y ≤ 16384
+-- in an accepted call, by either choice, a total weight is at most 16,384 and a sum at most 4,177,920
+module _ (o : Choice) (b : BuildInput) (s : Size) (e : checks (givenOf b) ≡ accepted s) (byte : (i : ℕ) → getD (b .request .bytes) i 0 < 256) (k x y : ℕ) where
+  pub total-limit : totalAt (ruleOf o (sceneOf (b .request))) (windowOf (b .request)) k x y ≤ 16384
   unfolding windowOf
   total-limit =
-      let l = legal b (Legal s) s (sym e) refl in
-      total-most (arnrRule (sceneOf (b .request))) (windowOf (b .request)) k x y (window-fair (b .request) (s .width) (s .height) l byte)
-      (window-byte (b .request) (s .width) (s .height) l byte k x y) (window-few (b .request) (s .width) (s .height) l byte)
+      let l = legal o b (Legal s) s (sym e) refl in
+      total-most (ruleOf o (sceneOf (b .request))) (windowOf (b .request)) k x y (window-fair o (b .request) (s .width) (s .height) l byte)
+      (window-byte o (b .request) (s .width) (s .height) l byte k x y) (window-few o (b .request) (s .width) (s .height) l byte)
 
-  pub sum-limit : sumAt (arnrRule (sceneOf (b .request))) (windowOf (b .request)) k x y ≤ 4177920
+  pub sum-limit : sumAt (ruleOf o (sceneOf (b .request))) (windowOf (b .request)) k x y ≤ 4177920
   unfolding windowOf
   sum-limit =
-      let l = legal b (Legal s) s (sym e) refl in
-      sum-most (arnrRule (sceneOf (b .request))) (windowOf (b .request)) k x y (window-fair (b .request) (s .width) (s .height) l byte)
-      (window-byte (b .request) (s .width) (s .height) l byte k x y) (window-few (b .request) (s .width) (s .height) l byte)
+      let l = legal o b (Legal s) s (sym e) refl in
+      sum-most (ruleOf o (sceneOf (b .request))) (windowOf (b .request)) k x y (window-fair o (b .request) (s .width) (s .height) l byte)
+      (window-byte o (b .request) (s .width) (s .height) l byte k x y) (window-few o (b .request) (s .width) (s .height) l byte)
 
 -- a number halved toward zero: what it has above zero, and what it has below, is halved and rounded down
 pub record Halves (v half : ℤ) : Type 0 where
@@ -230,13 +234,13 @@ pub every-cap-16 : (b : BuildInput) (r : BuildAnswer) (held : Held)
 unfolding windowOf arnrRule plainRule
 every-cap-16 b r held caps = build-alike arnrRule plainRule b alike r held
   where
-    alike : Each (Alike (arnrRule (sceneOf (b .request))) (plainRule (sceneOf (b .request)))) (windowOf (b .request) .others)
+    alike : Each (Alike (arnrRule (sceneOf (b .request))) (plainRule (sceneOf (b .request))) (sceneOf (b .request))) (windowOf (b .request) .others)
     alike =
         others-each (b .request .bytes) (b .request .numbers) (b .request .centre) _ (frameCount (b .request .numbers))
-        (λ g l.
+        (λ g l d.
         record {
-          accepts = λ i j. refl;
-          sample = λ k x y. refl;
+          accepts = λ i j hi hj. refl;
+          sample = λ k x y hx hy. refl;
           weight = λ e. capped (frameAt (b .request .numbers) g .cap) (sceneOf (b .request) .strength) e .whole (omega (arith, caps g l));
         })
 
@@ -246,3 +250,64 @@ pub no-29 : (rule : Scene → Rule Other) (b : BuildInput)
     → outcomeOf rule b ≡ firstOf (plainLines (givenOf b)) (builtOf rule (b .request))
 unfolding outcomeOf
 no-29 rule b caps = window.no-29 (givenOf b) caps (builtOf rule (b .request))
+
+-- without half samples the rule of a choice is the Rust's, with caps
+pub whole-choice : (s : Scene) → ruleOf wholeSamples s ≡ arnrRule s
+unfolding ruleOf arnrRule chosenSample displacedAt
+whole-choice s = refl
+
+pub whole-build : (b : BuildInput) (r : BuildAnswer) (held : Held) → BuildBy (ruleOf wholeSamples) b r held → BuildBy arnrRule b r held
+whole-build b r held = subst (λ (rule : Scene → Rule Other). BuildBy rule b r held) (fun-ext whole-choice)
+
+-- under both rules Y is the same: shares, totals, sums and denoised samples; the accepted counts, the displacements and the weights are the same
+pub record LumaSame (w : Window Other) : Type 0 where
+  pub share : (f : Other) (x y : ℕ) → shareOf (halfRule (w .scene)) (w .scene) f 0 x y ≡ shareOf (arnrRule (w .scene)) (w .scene) f 0 x y
+  pub total : (x y : ℕ) → totalAt (halfRule (w .scene)) w 0 x y ≡ totalAt (arnrRule (w .scene)) w 0 x y
+  pub sum : (x y : ℕ) → sumAt (halfRule (w .scene)) w 0 x y ≡ sumAt (arnrRule (w .scene)) w 0 x y
+  pub sample : (x y : ℕ) → denoisedAt (halfRule (w .scene)) w 0 x y ≡ denoisedAt (arnrRule (w .scene)) w 0 x y
+  pub count : acceptedBlocks (halfRule (w .scene)) w ≡ acceptedBlocks (arnrRule (w .scene)) w
+  pub weight : (f : Other) (e : ℕ) → halfRule (w .scene) .weight f e ≡ arnrRule (w .scene) .weight f e
+
+pub luma-same : (w : Window Other) → LumaSame w
+unfolding shareOf totalAt sumAt denoisedAt acceptedBlocks acceptedIn ruleOf arnrRule chosenSample displacedAt
+luma-same w =
+    record {
+      share = λ f x y. refl;
+      total = λ x y. refl;
+      sum = λ x y. refl;
+      sample = λ x y. refl;
+      count = refl;
+      weight = λ f e. refl;
+    }
+
+-- where every displacement of every other frame is even in both components, both calls answer and leave the same
+module _ (b : BuildInput) (byte : (i : ℕ) → getD (b .request .bytes) i 0 < 256)
+    (even : (g i j : ℕ) → g < frameCount (b .request .numbers) → (g ≡ b .request .centre → ⊥) → i < gridSide (sceneOf (b .request) .height) → j < gridSide (sceneOf (b .request) .width)
+    → Even (displacementOf (sceneOf (b .request)) (pictureOf (b .request .bytes) (frameAt (b .request .numbers) g)) i j)) where
+  even-sample : (g k x y : ℕ) → g < frameCount (b .request .numbers) → (g ≡ b .request .centre → ⊥)
+      → x < sideOf k (sceneOf (b .request) .width) → y < sideOf k (sceneOf (b .request) .height)
+      → halfRule (sceneOf (b .request)) .sample (otherOf (b .request .bytes) (frameAt (b .request .numbers) g)) k x y
+      ≡ arnrRule (sceneOf (b .request)) .sample (otherOf (b .request .bytes) (frameAt (b .request .numbers) g)) k x y
+  unfolding ruleOf arnrRule chosenSample displacedAt
+  even-sample g zero x y l other hx hy = refl
+  even-sample g (suc k) x y l other hx hy =
+      let f = pictureOf (b .request .bytes) (frameAt (b .request .numbers) g) in
+      let d = displacementOf (sceneOf (b .request)) f (y / 8) (x / 8) in
+      half-even d (f (suc k))
+      (even g (y / 8) (x / 8) l other (within-grid (suc k) (sceneOf (b .request) .height) y hy) (within-grid (suc k) (sceneOf (b .request) .width) x hx))
+      (λ u v. let h = picture-byte (b .request .bytes) (frameAt (b .request .numbers) g) byte (suc k) u v in omega arith)
+      .old k (pos x) (pos y)
+
+  pub even-same : (r : BuildAnswer) (held : Held) → BuildBy halfRule b r held → BuildBy arnrRule b r held
+  unfolding windowOf ruleOf arnrRule
+  even-same r held = build-alike halfRule arnrRule b alike r held
+    where
+      alike : Each (Alike (halfRule (sceneOf (b .request))) (arnrRule (sceneOf (b .request))) (sceneOf (b .request))) (windowOf (b .request) .others)
+      alike =
+          others-each (b .request .bytes) (b .request .numbers) (b .request .centre) _ (frameCount (b .request .numbers))
+          (λ g l other.
+          record { accepts = λ i j hi hj. refl; sample = λ k x y hx hy. even-sample g k x y l other hx hy; weight = λ e. refl })
+
+-- where the centre is only cropped, both calls answer and leave the same, under any rule
+pub crop-same : (b : BuildInput) (r : BuildAnswer) (held : Held) → cropped (b .request) ≡ true → BuildBy halfRule b r held → BuildBy arnrRule b r held
+crop-same b r held crop = build-cropped halfRule arnrRule b crop r held

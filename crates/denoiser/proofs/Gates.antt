@@ -5,9 +5,10 @@ use Prim.Native.Nat.{ℕ, _+_, _*_, _≤_, _<_}
 use native.Mathlib.Omega.{arith}
 use native.Mathlib.Decide.{decLt, decLe, ℕ-discrete}
 use lib.Dec.{eqb, leb, ltb}
-use borrow.Author.Tests.{eq-eqb, ne-eqb, le-leb, lt-leb, lt-ltb, le-ltb}
+use borrow.Author.Tests.{eq-eqb, ne-eqb, le-leb, lt-leb, lt-ltb, le-ltb, leb-true, ltb-true}
 use Rattle.denoiser.specs.Window.{gate}
-use Rattle.denoiser.specs.Internal.{between}
+use Rattle.denoiser.specs.declared.Block.{Block}
+use Rattle.denoiser.specs.Internal.{between, within}
 
 -- the one step of every count: what is below i, with i itself, is what is below i + 1
 pub gate-step : (k i v : ℕ) → gate (ltb k i) v + gate (eqb k i) v ≡ gate (ltb k (i + 1)) v
@@ -91,3 +92,23 @@ gate-none p v = ap (λ (t : Bool). gate t v) (le-ltb p 0 (omega arith)) ∙ gate
 
 pub row-none : (q i p v : ℕ) → gate (eqb q i) (gate (ltb p 0) v) ≡ 0
 row-none q i p v = ap (gate (eqb q i)) (gate-none p v) ∙ gate-zero (eqb q i)
+
+-- a gate asks of what it holds only where it is open; so a block's asks at the places that it covers
+pub gate-by : (t : Bool) (u v : ℕ) → (t ≡ true → u ≡ v) → gate t u ≡ gate t v
+unfolding gate
+gate-by true u v h = h refl
+gate-by false u v h = refl
+
+both : (s t : Bool) → (s && t) ≡ true → (s ≡ true) × (t ≡ true)
+both true t e = (refl, e)
+both false t e = absurd (let z : _≡_ {A = ℕ} 0 1 = cc in omega arith)
+
+pub gate-inside : (b : Block) (x y u v : ℕ) → (b .x ≤ x → x < b .x + b .columns → b .y ≤ y → y < b .y + b .rows → u ≡ v) → gate (within b x y) u ≡ gate (within b x y) v
+unfolding within between
+gate-inside b x y u v h =
+    gate-by _ u v
+    (λ e.
+    let p = both _ _ e in
+    let q = both (leb (b .y) y) _ (p .0) in
+    let r = both (leb (b .x) x) _ (p .1) in
+    h (leb-true (b .x) x (r .0)) (ltb-true x (b .x + b .columns) (r .1)) (leb-true (b .y) y (q .0)) (ltb-true y (b .y + b .rows) (q .1)))

@@ -20,9 +20,11 @@ use Rattle.weights.proofs.Weights.{zero-weight, read-none, read-some, read-most
 use Rattle.window.specs.Layout.{sideOf}
 use Rattle.denoiser.specs.declared.Block.{Block}
 use Rattle.denoiser.specs.declared.Displacement.{Displacement}
+use Rattle.denoiser.specs.declared.Choice.{Choice}
 use Rattle.denoiser.specs.Grid.{gridBlock, gridSide, unitOf}
-use Rattle.denoiser.specs.Search.{sadOf, displacedBy, blockSearch, displacementIn}
-use Rattle.denoiser.specs.Window.{Picture, Other, Scene, Rule, gate, centreAt, shareOf, acceptedIn, costOf, displacementOf, sadAccepted, blockAccepted, displacedAt, arnrRule}
+use Rattle.denoiser.specs.Search.{sadOf, displacedBy, blockSearch}
+use Rattle.denoiser.specs.Window.{Picture, Other, Scene, Rule, gate, centreAt, shareOf, acceptedIn, costOf, displacementOf, sadAccepted, blockAccepted}
+use Rattle.denoiser.specs.Chroma.{sampleIn, chosenSample, ruleOf}
 use Rattle.denoiser.specs.Internal.{curveRule, curveShare, curveTerm, cappedCurve, otherShare, otherTerm, otherBlocks}
 use Rattle.denoiser.proofs.Cover.{grid-lies, within-grid}
 
@@ -43,7 +45,7 @@ pub record Agree (a b : Scene) : Type 0 where
   pub height : a .height ≡ b .height
   pub centre : (k x y : ℕ) → k < 3 → x < sideOf k (a .width) → y < sideOf k (a .height) → centreAt a k x y ≡ centreAt b k x y
 
-module _ (a b : Scene) (s : Agree a b) (f : Picture) where
+module _ (o : Choice) (a b : Scene) (s : Agree a b) (f : Picture) where
   grid-same : (i j : ℕ) → gridBlock (a .width) (a .height) i j ≡ gridBlock (b .width) (b .height) i j
   grid-same i j = ap (λ (t : ℕ). gridBlock t (a .height) i j) (s .width) ∙ ap (λ (t : ℕ). gridBlock (b .width) t i j) (s .height)
 
@@ -68,21 +70,21 @@ module _ (a b : Scene) (s : Agree a b) (f : Picture) where
       ∙ ap (λ (r : Block). sadAccepted r (costOf b f i j (displacementOf b f i j))) (grid-same i j)
 
   module _ (k x y : ℕ) (hk : k < 3) (hx : x < sideOf k (a .width)) (hy : y < sideOf k (a .height)) where
-    pub displaced-same : displacedAt a f k x y ≡ displacedAt b f k x y
-    unfolding displacedAt
+    pub displaced-same : chosenSample o a f k x y ≡ chosenSample o b f k x y
+    unfolding chosenSample
     displaced-same =
-        ap (λ (d : Displacement). displacedBy (displacementIn k d) (f k) (pos x) (pos y))
+        ap (λ (d : Displacement). sampleIn (o .«half_sample») k d (f k) (pos x) (pos y))
         (displacement-same (y / unitOf k) (x / unitOf k) (in-grid k (a .height) y hy) (in-grid k (a .width) x hx))
 
     pub by-weight : (u v : ℕ → ℕ) → ((e : ℕ) → u e ≡ v e)
-        → gate (blockAccepted a f (y / unitOf k) (x / unitOf k)) (u (distance (displacedAt a f k x y) (centreAt a k x y)))
-        ≡ gate (blockAccepted b f (y / unitOf k) (x / unitOf k)) (v (distance (displacedAt b f k x y) (centreAt b k x y)))
+        → gate (blockAccepted a f (y / unitOf k) (x / unitOf k)) (u (distance (chosenSample o a f k x y) (centreAt a k x y)))
+        ≡ gate (blockAccepted b f (y / unitOf k) (x / unitOf k)) (v (distance (chosenSample o b f k x y) (centreAt b k x y)))
     by-weight u v e =
-        ap (λ (t : Bool). gate t (u (distance (displacedAt a f k x y) (centreAt a k x y)))) (accepted-same (y / unitOf k) (x / unitOf k) (in-grid k (a .height) y hy) (in-grid k (a .width) x hx))
+        ap (λ (t : Bool). gate t (u (distance (chosenSample o a f k x y) (centreAt a k x y)))) (accepted-same (y / unitOf k) (x / unitOf k) (in-grid k (a .height) y hy) (in-grid k (a .width) x hx))
         ∙ ap (gate (blockAccepted b f (y / unitOf k) (x / unitOf k)))
-        (e (distance (displacedAt a f k x y) (centreAt a k x y))
+        (e (distance (chosenSample o a f k x y) (centreAt a k x y))
         ∙ ap (λ (t : ℕ). v (distance t (centreAt a k x y))) displaced-same
-        ∙ ap (λ (t : ℕ). v (distance (displacedAt b f k x y) t)) (s .centre k x y hk hx hy))
+        ∙ ap (λ (t : ℕ). v (distance (chosenSample o b f k x y) t)) (s .centre k x y hk hx hy))
 
   -- as many blocks are accepted
   pub blocks-same : sumBelow (λ i. sumBelow (λ j. gate (blockAccepted a f i j) 1) (gridSide (a .width))) (gridSide (a .height))
@@ -128,27 +130,27 @@ capped-at curve strength is cap e = by (decLt e 256)
         List·getD-eq-default (tabulate 256 (λ d. min cap (getD curve d 0))) 0 (omega arith) ∙ omega arith
 
 -- another frame, with its cap
-module _ (a b : Scene) (s : Agree a b) (f : Other) where
+module _ (o : Choice) (a b : Scene) (s : Agree a b) (f : Other) where
   module _ (k x y : ℕ) (hk : k < 3) (hx : x < sideOf k (a .width)) (hy : y < sideOf k (a .height)) where
     -- a share depends on the frame, the centre and the strength only
-    pub share-alone : a .strength ≡ b .strength → shareOf (arnrRule a) a f k x y ≡ shareOf (arnrRule b) b f k x y
-    unfolding shareOf arnrRule
+    pub share-alone : a .strength ≡ b .strength → shareOf (ruleOf o a) a f k x y ≡ shareOf (ruleOf o b) b f k x y
+    unfolding shareOf ruleOf
     share-alone e =
-        by-weight a b s (f .picture) k x y hk hx hy (cappedWeight (f .cap) (a .strength)) (cappedWeight (f .cap) (b .strength))
+        by-weight o a b s (f .picture) k x y hk hx hy (cappedWeight (f .cap) (a .strength)) (cappedWeight (f .cap) (b .strength))
         (λ d. ap (λ (t : ℕ). cappedWeight (f .cap) t d) e)
 
-    pub share-joined : (curve : List ℕ) → ((e : ℕ) → getD curve e 0 ≡ weightRead (b .strength) e) → otherShare curve a f k x y ≡ shareOf (arnrRule b) b f k x y
-    unfolding otherShare curveShare shareOf curveRule arnrRule
+    pub share-joined : (curve : List ℕ) → ((e : ℕ) → getD curve e 0 ≡ weightRead (b .strength) e) → otherShare o curve a f k x y ≡ shareOf (ruleOf o b) b f k x y
+    unfolding otherShare curveShare shareOf curveRule ruleOf
     share-joined curve e =
-        by-weight a b s (f .picture) k x y hk hx hy (λ d. getD (cappedCurve curve (f .cap)) d 0) (cappedWeight (f .cap) (b .strength)) (capped-at curve (b .strength) e (f .cap))
+        by-weight o a b s (f .picture) k x y hk hx hy (λ d. getD (cappedCurve curve (f .cap)) d 0) (cappedWeight (f .cap) (b .strength)) (capped-at curve (b .strength) e (f .cap))
 
     pub term-joined : (curve : List ℕ) → ((e : ℕ) → getD curve e 0 ≡ weightRead (b .strength) e)
-        → otherTerm curve a f k x y ≡ shareOf (arnrRule b) b f k x y * arnrRule b .sample f k x y
-    unfolding otherTerm otherShare curveTerm arnrRule
+        → otherTerm o curve a f k x y ≡ shareOf (ruleOf o b) b f k x y * ruleOf o b .sample f k x y
+    unfolding otherTerm otherShare curveTerm ruleOf
     term-joined curve e =
-        ap (λ (t : ℕ). t * displacedAt a (f .picture) k x y) (share-joined curve e)
-        ∙ ap (λ (t : ℕ). shareOf (arnrRule b) b f k x y * t) (displaced-same a b s (f .picture) k x y hk hx hy)
+        ap (λ (t : ℕ). t * chosenSample o a (f .picture) k x y) (share-joined curve e)
+        ∙ ap (λ (t : ℕ). shareOf (ruleOf o b) b f k x y * t) (displaced-same o a b s (f .picture) k x y hk hx hy)
 
-  pub count-joined : (curve : List ℕ) → otherBlocks curve a f ≡ acceptedIn (arnrRule b) b f
-  unfolding otherBlocks acceptedIn curveRule arnrRule
-  count-joined curve = blocks-same a b s (f .picture)
+  pub count-joined : (curve : List ℕ) → otherBlocks o curve a f ≡ acceptedIn (ruleOf o b) b f
+  unfolding otherBlocks acceptedIn curveRule ruleOf
+  count-joined curve = blocks-same o a b s (f .picture)

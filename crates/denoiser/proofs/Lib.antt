@@ -5,6 +5,7 @@ pub mod Place
 pub mod Searches
 pub mod Cover
 pub mod Spreads
+pub mod Halves
 pub mod Pictures
 pub mod Others
 pub mod Fronts

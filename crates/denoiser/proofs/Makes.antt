@@ -11,7 +11,7 @@ use lib.Seq.{drop-at, take-at}
 use borrow.Author.Tests.{eq-eqb, ne-eqb}
 use Rattle.window.specs.Layout.{packedSize}
 use Rattle.window.specs.Frames.{frameAt, frameCount}
-use Rattle.denoiser.specs.Window.{centreAt, sumAt, totalAt, denoisedAt, acceptedBlocks, arnrRule}
+use Rattle.denoiser.specs.Window.{Other, Scene, Rule, centreAt}
 use Rattle.denoiser.specs.Pictures.{pictureOf}
 use Rattle.denoiser.specs.Demand.{Held}
 use Rattle.denoiser.specs.Build.{Request, sceneOf, windowOf, cropped, packed, filled, builtOf, samplesOf}
@@ -35,7 +35,7 @@ pub crops-not : (q : Request) → (frameCount (q .numbers) ≡ 1 → ⊥) → (q
 unfolding cropped
 crops-not q f g = rw (ne-eqb (frameCount (q .numbers)) 1 f, ne-eqb (q .strength) 0 g)
 
-module _ (q : Request) (w h : ℕ) (legal : Legal q w h) (n : ℕ) (n-is : n ≡ packedSize w h) where
+module _ (rule : Scene → Rule Other) (q : Request) (w h : ℕ) (legal : Legal q w h) (n : ℕ) (n-is : n ≡ packedSize w h) where
   -- P entries of f in front of the rest
   pub filled-is : (f : ℕ → ℕ → ℕ → ℕ) (new old : List ℕ) → new ≡ packed w h f → new ++ drop n old ≡ filled (sceneOf q) f old
   unfolding filled sceneOf
@@ -52,7 +52,7 @@ module _ (q : Request) (w h : ℕ) (legal : Legal q w h) (n : ℕ) (n-is : n ≡
       subst (λ (t : ℕ). Shows w t (centreAt (sceneOf q)) l) (size .1) (subst (λ (t : ℕ). Shows t (frameAt (q .numbers) (q .centre) .height) (centreAt (sceneOf q)) l) (size .0) s)
 
   pub made-cropped : (lent : Held) (new : List ℕ) → length new ≡ n → Shows w h (centreAt (sceneOf q)) new → cropped q ≡ true
-      → Made q lent 0 (record { output = new ++ drop n (lent .output); sums = lent .sums; weights = lent .weights })
+      → Made rule q lent 0 (record { output = new ++ drop n (lent .output); sums = lent .sums; weights = lent .weights })
   unfolding builtOf samplesOf
   made-cropped lent new long s t =
       record {
@@ -62,8 +62,8 @@ module _ (q : Request) (w h : ℕ) (legal : Legal q w h) (n : ℕ) (n-is : n ≡
         weights = rw t;
       }
 
-  pub made-blended : (lent : Held) (new : List ℕ) (count : ℕ) (held : Held) → length new ≡ n → Blended q w h count held → cropped q ≡ false
-      → Made q lent count (record { output = held .output ++ drop n (new ++ drop n (lent .output)); sums = held .sums ++ drop n (lent .sums); weights = held .weights ++ drop n (lent .weights) })
+  pub made-blended : (lent : Held) (new : List ℕ) (count : ℕ) (held : Held) → length new ≡ n → Blended rule q w h count held → cropped q ≡ false
+      → Made rule q lent count (record { output = held .output ++ drop n (new ++ drop n (lent .output)); sums = held .sums ++ drop n (lent .sums); weights = held .weights ++ drop n (lent .weights) })
   unfolding builtOf samplesOf
   made-blended lent new count held long b t =
       record {

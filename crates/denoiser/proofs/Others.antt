@@ -57,15 +57,15 @@ but-most c (suc n) = by (eqb n c) (but-most c n)
     by true l = omega arith
     by false l = omega (arith, length-append (allBut c n) (n ∷ []))
 
--- what holds below n holds of each
-each-but : (P : ℕ → Type 0) (c n : ℕ) → ((g : ℕ) → g < n → P g) → Each P (allBut c n)
+-- what holds below n but at c holds of each
+each-but : (P : ℕ → Type 0) (c n : ℕ) → ((g : ℕ) → g < n → (g ≡ c → ⊥) → P g) → Each P (allBut c n)
 unfolding allBut
 each-but P c zero h = tt
-each-but P c (suc n) h = by (eqb n c) (each-but P c n (λ g l. h g (omega arith)))
+each-but P c (suc n) h = by (ℕ-discrete n c) (each-but P c n (λ g l. h g (omega arith)))
   where
-    by : (t : Bool) → Each P (allBut c n) → Each P (cond t (allBut c n) (allBut c n ++ (n ∷ [])))
-    by true e = e
-    by false e = each-append P (allBut c n) (n ∷ []) e (h n (omega arith), tt)
+    by : Dec (n ≡ c) → Each P (allBut c n) → Each P (cond (eqb n c) (allBut c n) (allBut c n ++ (n ∷ [])))
+    by (yes s) e = simp (eq-eqb n c s) e
+    by (no d) e = simp (ne-eqb n c d) (each-append P (allBut c n) (n ∷ []) e (h n (omega arith) d, tt))
 
 module _ (bytes numbers : List ℕ) (c : ℕ) where
   pub others-none : (f : Other → ℕ) → sumOver f (othersOf bytes numbers c 0) ≡ 0
@@ -86,8 +86,8 @@ module _ (bytes numbers : List ℕ) (c : ℕ) where
   unfolding othersOf
   others-count n h = let e = length-map (allBut c n) (λ g. otherOf bytes (frameAt numbers g)) in let a = but-count c n h in omega arith
 
-  -- what holds of every frame below n holds of each
-  pub others-each : (P : Other → Type 0) (n : ℕ) → ((g : ℕ) → g < n → P (otherOf bytes (frameAt numbers g))) → Each P (othersOf bytes numbers c n)
+  -- what holds of every frame below n but the centre holds of each
+  pub others-each : (P : Other → Type 0) (n : ℕ) → ((g : ℕ) → g < n → (g ≡ c → ⊥) → P (otherOf bytes (frameAt numbers g))) → Each P (othersOf bytes numbers c n)
   unfolding othersOf
   others-each P n h = each-of (allBut c n) (each-but (λ g. P (otherOf bytes (frameAt numbers g))) c n h)
     where

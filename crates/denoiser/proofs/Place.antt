@@ -150,3 +150,13 @@ module _ (curve : List ℕ) (c s : Samples) (light : Light curve) where
   pub term-most : (x y : ℕ) → s (pos x) (pos y) ≤ 255 → termBy curve c s x y ≤ 4080
   unfolding termBy
   term-most x y byte = mul-le-mul (share-most x y) byte
+
+-- a share and a term go by the two samples at the place
+module _ (curve : List ℕ) (c s t : Samples) (x y : ℕ) (e : s (pos x) (pos y) ≡ t (pos x) (pos y)) where
+  pub share-goes : shareBy curve c s x y ≡ shareBy curve c t x y
+  unfolding shareBy
+  share-goes = ap (λ (v : ℕ). getD curve (distance v (c (pos x) (pos y))) 0) e
+
+  pub term-goes : termBy curve c s x y ≡ termBy curve c t x y
+  unfolding termBy
+  term-goes = ap (λ (n : ℕ). n * s (pos x) (pos y)) share-goes ∙ ap (λ (n : ℕ). shareBy curve c t x y * n) e

@@ -15,6 +15,7 @@ use Rattle.denoiser.specs.declared.Built.{Built}
 use Rattle.denoiser.specs.declared.BuildAnswer.{BuildAnswer}
 use Rattle.denoiser.specs.declared.BuildAnswer.the-variants.{Done, Refused}
 use Rattle.denoiser.specs.Window.{Other, Scene, Window, Rule, centreAt, totalAt, sumAt, denoisedAt, acceptedBlocks, arnrRule}
+use Rattle.denoiser.specs.Chroma.{halfRule}
 use Rattle.denoiser.specs.Pictures.{pictureOf, othersOf}
 use Rattle.denoiser.specs.Demand.{Held, Demand3}
 
@@ -106,3 +107,7 @@ pub record BuildBy (rule : Scene → Rule Other) (b : BuildInput) (r : BuildAnsw
 -- the builder of the Rust, with caps; where every cap is 16 it is document 01's (`every-cap-16`)
 abbrev pub BuildIs : BuildInput → BuildAnswer → Held → Type 0
 BuildIs b r held = BuildBy arnrRule b r held
+
+-- the builder with half samples in U and V: the same promise by the other rule
+abbrev pub BuildHalf : BuildInput → BuildAnswer → Held → Type 0
+BuildHalf b r held = BuildBy halfRule b r held

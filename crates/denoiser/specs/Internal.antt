@@ -1,10 +1,10 @@
 -- What the private contracts of the crate `arnr` speak of: parts of the lent slices, and what is added to them. No public contract uses these. Assumes nothing.
 use mathlib.Core.Path.{_≡_}
-use mathlib.Core.Bool.{Bool, cond, _&&_}
+use mathlib.Core.Bool.{Bool, false, cond, _&&_}
 use mathlib.Core.List.{List}
-use Prim.Native.Nat.{ℕ, _+_, _*_, _^_, _≤_, _<_, min}
+use Prim.Native.Nat.{ℕ, zero, suc, _+_, _-_, _*_, _/_, _%_, _^_, _≤_, _<_, min}
 use lib.Dec.{leb, ltb}
-use lib.IntN.{ℤ, pos}
+use lib.IntN.{ℤ, pos, _-ℤ_}
 use lib.ListN.{length, getD}
 use Rattle.laws.specs.Signed.{above, below}
 use Rattle.laws.specs.Sums.{sumBelow}
@@ -12,6 +12,8 @@ use Rattle.laws.specs.Tabulate.{tabulate}
 use Rattle.laws.specs.Best.{bestOf}
 use Rattle.prediction.specs.Samples.{distance}
 use Rattle.prediction.specs.Plane.{Samples, Plane, sampleAt, bytesNeeded}
+use Rattle.prediction.specs.Filter.{sixtap}
+use Rattle.filters.specs.Internal.{window, filteredList}
 use Rattle.window.specs.declared.Frame.{Frame}
 use Rattle.window.specs.Layout.{sideOf, offsetOf, packedSize, placeOf}
 use Rattle.weights.specs.Blend.{denoised}
@@ -20,8 +22,10 @@ use Rattle.denoiser.specs.declared.Block.{Block}
 use Rattle.denoiser.specs.declared.Displacement.{Displacement}
 use Rattle.denoiser.specs.declared.PlaneNumbers.{PlaneNumbers}
 use Rattle.denoiser.specs.declared.Motion.{Motion}
+use Rattle.denoiser.specs.declared.Choice.{Choice}
 use Rattle.denoiser.specs.Search.{sadOf, displacedBy, neighbourOf}
-use Rattle.denoiser.specs.Window.{Picture, Other, Scene, Rule, shareOf, sumAt, totalAt, denoisedAt, acceptedIn, acceptedBlocks, blockAccepted, displacedAt, arnrRule}
+use Rattle.denoiser.specs.Window.{Picture, Other, Scene, Rule, shareOf, sumAt, totalAt, denoisedAt, acceptedIn, acceptedBlocks, blockAccepted}
+use Rattle.denoiser.specs.Chroma.{halfDown, halfRow, chosenSample}
 use Rattle.denoiser.specs.Demand.{Held}
 use Rattle.denoiser.specs.Build.{Request, sceneOf, windowOf, cropped, packed, filled, builtOf, samplesOf}
 
@@ -61,6 +65,12 @@ pub record Span (columns rows x y n : ℕ) : Type 0 where
   pub short : n ≤ 16
   pub wide : x + n ≤ columns
   pub high : y < rows
+
+-- n samples from (x, y) on, in the plane or so near to it that no coordinate grows large
+pub record Near (x y n : ℕ) : Type 0 where
+  pub short : n ≤ 16
+  pub wide : x ≤ 16383
+  pub high : y < 16400
 
 -- there are columns, n of them from x on, and all lie among 0 .. columns - 1 once moved by d
 pub record Runs (x n : ℕ) (d : ℤ) (columns : ℕ) : Type 0 where
@@ -162,29 +172,53 @@ packedPicture w h l k = sampleAt (packedPlane (offsetOf k w h) (sideOf k w) (sid
 unfoldable pub packedScene : ℕ → ℕ → List ℕ → Scene
 packedScene w h l = record { width = w; height = h; strength = 0; centre = packedPicture w h l }
 
--- the rule by a curve that is lent; a frame's share by it, and the share times the displaced sample
-unfoldable pub curveRule : List ℕ → Scene → Rule Picture
-curveRule curve s = record { accepts = blockAccepted s; sample = displacedAt s; weight = λ f e. getD curve e 0 }
+-- the rule of a choice by a curve that is lent; a frame's share by it, and the share times the displaced sample
+unfoldable pub curveRule : Choice → List ℕ → Scene → Rule Picture
+curveRule c curve s = record { accepts = blockAccepted s; sample = chosenSample c s; weight = λ f e. getD curve e 0 }
 
-unfoldable pub curveShare : List ℕ → Scene → Picture → ℕ → ℕ → ℕ → ℕ
-curveShare curve s f k x y = shareOf (curveRule curve s) s f k x y
+unfoldable pub curveShare : Choice → List ℕ → Scene → Picture → ℕ → ℕ → ℕ → ℕ
+curveShare c curve s f k x y = shareOf (curveRule c curve s) s f k x y
 
-unfoldable pub curveTerm : List ℕ → Scene → Picture → ℕ → ℕ → ℕ → ℕ
-curveTerm curve s f k x y = curveShare curve s f k x y * displacedAt s f k x y
+unfoldable pub curveTerm : Choice → List ℕ → Scene → Picture → ℕ → ℕ → ℕ → ℕ
+curveTerm c curve s f k x y = curveShare c curve s f k x y * chosenSample c s f k x y
 
 -- a curve cut at a cap
 unfoldable pub cappedCurve : List ℕ → ℕ → List ℕ
 cappedCurve curve cap = tabulate 256 (λ e. min cap (getD curve e 0))
 
 -- of another frame, by the lent curve cut at its cap: its share, the share times the displaced sample, and its accepted blocks
-unfoldable pub otherShare : List ℕ → Scene → Other → ℕ → ℕ → ℕ → ℕ
-otherShare curve s f k x y = curveShare (cappedCurve curve (f .cap)) s (f .picture) k x y
+unfoldable pub otherShare : Choice → List ℕ → Scene → Other → ℕ → ℕ → ℕ → ℕ
+otherShare c curve s f k x y = curveShare c (cappedCurve curve (f .cap)) s (f .picture) k x y
 
-unfoldable pub otherTerm : List ℕ → Scene → Other → ℕ → ℕ → ℕ → ℕ
-otherTerm curve s f k x y = curveTerm (cappedCurve curve (f .cap)) s (f .picture) k x y
+unfoldable pub otherTerm : Choice → List ℕ → Scene → Other → ℕ → ℕ → ℕ → ℕ
+otherTerm c curve s f k x y = curveTerm c (cappedCurve curve (f .cap)) s (f .picture) k x y
 
-unfoldable pub otherBlocks : List ℕ → Scene → Other → ℕ
-otherBlocks curve s f = acceptedIn (curveRule (cappedCurve curve (f .cap)) s) s (f .picture)
+unfoldable pub otherBlocks : Choice → List ℕ → Scene → Other → ℕ
+otherBlocks c curve s f = acceptedIn (curveRule c (cappedCurve curve (f .cap)) s) s (f .picture)
+
+-- whether the block of plane k is filtered: in U and V, by half samples, where a component of the displacement is odd
+unfoldable pub filteredIn : Bool → ℕ → Displacement → Bool
+filteredIn half zero d = false
+filteredIn half (suc k) d = half && ltb 0 (halfRow (d .dx) + halfRow (d .dy))
+
+-- the displacement of the samples around a block: the whole offsets, and two back
+abbrev pub haloBy : Displacement → Displacement
+haloBy d = record { dx = halfDown (d .dx) -ℤ pos 2; dy = halfDown (d .dy) -ℤ pos 2 }
+
+-- 13 rows of 16 samples, the first at (x, y): sample i
+abbrev pub haloEntry : Samples → ℕ → ℕ → ℕ → ℕ
+haloEntry at x y i = at (pos (x + i % 16)) (pos (y + i / 16))
+
+-- sample i of either pass over these: 13 rows of 8, and 8 rows of 8 from those
+abbrev pub acrossEight : ℕ → List ℕ → ℕ → ℕ
+acrossEight mx halo i = filteredList sixtap mx (window halo (i / 8 * 16 + i % 8) 1)
+
+abbrev pub downEight : ℕ → List ℕ → ℕ → ℕ
+downEight my rows i = filteredList sixtap my (window rows i 8)
+
+-- the samples of a block of 8 by 8 that stands at (x, y) of a plane
+unfoldable pub blockSamples : List ℕ → ℕ → ℕ → Samples
+blockSamples block x y i j = getD block ((above j - y) * 8 + (above i - x)) 0
 
 -- n frames of one size, each within the bytes
 pub record Frames (bytes numbers : List ℕ) (n w h : ℕ) : Type 0 where
@@ -229,15 +263,15 @@ pub record Legal (q : Request) (w h : ℕ) : Type 0 where
   pub high : (0 < h) × (h ≤ 16383)
 
 -- what a blend leaves in slices of P entries
-pub record Blended (q : Request) (w h count : ℕ) (held : Held) : Type 0 where
-  pub accepted : count ≡ acceptedBlocks (arnrRule (sceneOf q)) (windowOf q)
-  pub output : held .output ≡ packed w h (denoisedAt (arnrRule (sceneOf q)) (windowOf q))
-  pub sums : held .sums ≡ packed w h (sumAt (arnrRule (sceneOf q)) (windowOf q))
-  pub weights : held .weights ≡ packed w h (totalAt (arnrRule (sceneOf q)) (windowOf q))
+pub record Blended (rule : Scene → Rule Other) (q : Request) (w h count : ℕ) (held : Held) : Type 0 where
+  pub accepted : count ≡ acceptedBlocks (rule (sceneOf q)) (windowOf q)
+  pub output : held .output ≡ packed w h (denoisedAt (rule (sceneOf q)) (windowOf q))
+  pub sums : held .sums ≡ packed w h (sumAt (rule (sceneOf q)) (windowOf q))
+  pub weights : held .weights ≡ packed w h (totalAt (rule (sceneOf q)) (windowOf q))
 
 -- what an accepted call leaves
-pub record Made (q : Request) (lent : Held) (count : ℕ) (held : Held) : Type 0 where
-  pub accepted : count ≡ builtOf arnrRule q .accepted
-  pub output : held .output ≡ filled (sceneOf q) (samplesOf arnrRule q) (lent .output)
-  pub sums : held .sums ≡ cond (cropped q) (lent .sums) (filled (sceneOf q) (sumAt (arnrRule (sceneOf q)) (windowOf q)) (lent .sums))
-  pub weights : held .weights ≡ cond (cropped q) (lent .weights) (filled (sceneOf q) (totalAt (arnrRule (sceneOf q)) (windowOf q)) (lent .weights))
+pub record Made (rule : Scene → Rule Other) (q : Request) (lent : Held) (count : ℕ) (held : Held) : Type 0 where
+  pub accepted : count ≡ builtOf rule q .accepted
+  pub output : held .output ≡ filled (sceneOf q) (samplesOf rule q) (lent .output)
+  pub sums : held .sums ≡ cond (cropped q) (lent .sums) (filled (sceneOf q) (sumAt (rule (sceneOf q)) (windowOf q)) (lent .sums))
+  pub weights : held .weights ≡ cond (cropped q) (lent .weights) (filled (sceneOf q) (totalAt (rule (sceneOf q)) (windowOf q)) (lent .weights))

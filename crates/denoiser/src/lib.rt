@@ -23,6 +23,11 @@ pub struct PlaneNumbers {
     pub rows: usize,
 }
 
+// What a builder's call chooses: whether U and V are displaced by half samples.
+pub struct Choice {
+    pub half_sample: bool,
+}
+
 // A displacement and its SAD.
 pub struct Motion {
     pub displacement: Displacement,

@@ -110,7 +110,7 @@ here : (x : ℤ) → x +ℤ pos 2 -ℤ pos 2 ≡ x
 here x = same _ _ (omega (arith, sum x (pos 2) .up, sum x (pos 2) .dn, diff (x +ℤ pos 2) (pos 2) .up, diff (x +ℤ pos 2) (pos 2) .dn))
 
 module _ (set : FilterRows) (whole : Identity set) (at : Samples) (bytes : (x y : ℤ) → at x y < 256) where
-  whole-sample : (x y : ℤ) → predictedAt set 0 0 at x y ≡ at x y
+  pub whole-sample : (x y : ℤ) → predictedAt set 0 0 at x y ≡ at x y
   unfolding verticalAt horizontalAt
   whole-sample x y =
       let inner : ℕ → ℕ = λ k. filtered (set 0) (λ i. at (x +ℤ pos i -ℤ pos 2) (y +ℤ pos k -ℤ pos 2)) in

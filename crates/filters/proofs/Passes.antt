@@ -15,7 +15,7 @@ use Rattle.filters.specs.Internal.{window, filteredList, acrossOf, downO
 use Rattle.filters.proofs.Laws.{filtered-by, filtered-same, halo-reads}
 
 -- sample k of a window
-window-at : (xs : List ℕ) (at step k : ℕ) → k < 6 → getD (window xs at step) k 0 ≡ getD xs (at + k * step) 0
+pub window-at : (xs : List ℕ) (at step k : ℕ) → k < 6 → getD (window xs at step) k 0 ≡ getD xs (at + k * step) 0
 window-at xs at step zero h = ap (λ (n : ℕ). getD xs n 0) (omega arith)
 window-at xs at step (suc zero) h = ap (λ (n : ℕ). getD xs n 0) (omega arith)
 window-at xs at step (suc (suc zero)) h = refl

@@ -1,7 +1,7 @@
--- The sample by the sizes of a row's taps is the filtered sample; row 0 is the identity. Assumes nothing.
+-- The sample by the sizes of a row's taps is the filtered sample; row 0 is the identity, and row 4 keeps equal samples. Assumes nothing.
 use mathlib.Core.List.{List}
-use mathlib.Core.Path.{_≡_, refl, _∙_}
-use Prim.Native.Nat.{ℕ, suc, _+_, _-_, _*_, _/_, min}
+use mathlib.Core.Path.{_≡_, refl, sym, _∙_}
+use Prim.Native.Nat.{ℕ, suc, _+_, _-_, _*_, _/_, _<_, min}
 use native.Mathlib.Omega.{arith}
 use lib.ListN.{getD}
 use lib.IntN.{ℤ, pos, negℤ, _+ℤ_, _*ℤ_}
@@ -78,3 +78,14 @@ row-zero sample =
 
 pub sixtap-whole : Identity sixtap
 sixtap-whole = record { kept = row-zero }
+
+-- row 4 keeps equal samples: its taps add up to 128
+halfway : Taps
+halfway = record { a = 3; b = 16; c = 77; d = 77; e = 16; f = 3 }
+
+pub halfway-flat : (v : ℕ) → v < 256 → filtered (sixtap 4) (λ k. v) ≡ v
+unfolding sixtap sixtapRows halfway
+halfway-flat v h =
+    let r : Row 4 halfway = record { a = refl; b = refl; c = refl; d = refl; e = refl; f = refl } in
+    let z : min ((3 * v + 77 * v + 77 * v + 3 * v + 64 - (16 * v + 16 * v)) / 128) 255 ≡ v = omega arith in
+    sym (by-sizes 4 halfway r (λ k. v)) ∙ z

@@ -1,45 +1,11 @@
--- `arnr::build_from_numbers` meets its contract. Assumes nothing.
-use mathlib.Core.Path.{_≡_, refl, sym, ap, _∙_}
-use Prim.Native.Nat.{ℕ, _<_}
-use lib.ListN.{getD}
-use Rattle.denoiser.specs.Build.{BuildInput, asked}
-use Rattle.denoiser.proofs.Answers.{refused-is, legal, lent, done-is}
-use native.Mathlib.Omega.{arith}
+-- `arnr::build_from_numbers` meets its contract: it is `build_by` without half samples. Assumes nothing.
 use borrow.Author.Needs.{needs}
+use Rattle.denoiser.proofs.Claims.{whole-build}
 use Rattle.arnr.proofs.build_from_numbers.Statement.{statement}
 use Rattle.arnr.proofs.build_from_numbers.Tie as tie
 
-abbrev input : tie.Start → BuildInput
-input s =
-    record {
-      request = asked (s .args .bytes .now) (s .args .numbers .now) (s .args .centre) (s .args .config .strength);
-      lent = record { output = s .args .output .now; sums = s .args .sums .now; weights = s .args .weights .now };
-    }
-
-check-build-requires : tie.Need-check-build-requires
-check-build-requires c κs = search needs
-
-enum-known-checked : tie.Need-enum-known-checked
-enum-known-checked c = search needs
-
-enum-known-checked-2 : tie.Need-enum-known-checked-2
-enum-known-checked-2 c = search needs
-
-cast-make : tie.Need-cast-make
-cast-make c = search needs
-
-cast-make-2 : tie.Need-cast-make-2
-cast-make-2 c = search needs
-
-make-requires : tie.Need-make-requires
-make-requires c κs =
-    let b = input (c .before .before .before .before .before .before .before .before .before .before .before .before) in
-    let k = c .before .before .before .before .before .before .check-build in
-    let g = c .before .before .before .before .checked2 .given in
-    (legal b (k .result) _ (k .ensures) (g .1), lent b (k .result) _ (k .ensures) (g .1))
-
-returns : tie.Need-returns
-returns c = refused-is (input (c .before .before .before .before .before .before .before .before .before)) (c .before .before .before .check-build .result) _ (c .before .before .before .check-build .ensures) (c .before .checked .given .1)
+build-by-requires : tie.Need-build-by-requires
+build-by-requires c κs = search needs
 
 same-length : tie.Need-same-length
 same-length c = search needs
@@ -50,25 +16,8 @@ same-length-2 c = search needs
 same-length-3 : tie.Need-same-length-3
 same-length-3 c = search needs
 
-returns-2 : tie.Need-returns-2
-returns-2 c =
-    let s = c .before .before .before .before .before .before .before .before .before .before .before .before .before .before .before .before .before .before .before in
-    let k = c .before .before .before .before .before .before .before .before .before .before .before .before .before .check-build in
-    let m = c .before .before .before .before .before .before .make in
-    done-is (input s) (k .result) _ (k .ensures) (c .before .before .before .before .before .before .before .before .before .before .before .checked2 .given .1) (m .result) _ (m .ensures) (λ i. omega (arith, c .before .before .before .before .before .before .before .before .before .before .before .before .before .before .before .before .before .before .shared-slice-known .given i))
+returns : tie.Need-returns
+returns c = whole-build _ _ _ (c .before .before .before .before .before .before .build-by .ensures)
 
 pub build-from-numbers-spec : {M : Type 1} → statement M
-build-from-numbers-spec =
-    tie.close
-    (tie.spec
-    check-build-requires
-    enum-known-checked
-    enum-known-checked-2
-    cast-make
-    cast-make-2
-    make-requires
-    returns
-    same-length
-    same-length-2
-    same-length-3
-    returns-2)
+build-from-numbers-spec = tie.close (tie.spec build-by-requires same-length same-length-2 same-length-3 returns)

@@ -5,7 +5,7 @@ use Prim.Native.Nat.{ℕ, _+_, _*_, _/_, _≤_, _<_}
 use lib.Dec.{eqb}
 use Rattle.denoiser.specs.declared.Block.{Block}
 use Rattle.denoiser.specs.Grid.{gridBlock, unitOf}
-use Rattle.denoiser.specs.Search.{displacedBy, displacementIn}
+use Rattle.denoiser.specs.Chroma.{sampleIn}
 use Rattle.denoiser.specs.Window.{gate, costOf, displacementOf, sadAccepted, blockAccepted}
 use Rattle.denoiser.specs.Pictures.{pictureOf}
 use Rattle.denoiser.specs.Internal.{Short, packedPicture, packedScene, shareBy, termBy}
@@ -79,6 +79,7 @@ returns c =
     let j = s .args .j in
     let out = s .args .out .now in
     let curve = s .args .curve .now in
+    let half = s .args .choice .«half_sample» in
     let scene = packedScene w h out in
     let picture = pictureOf (s .args .bytes .now) f in
     let yes : blockAccepted scene picture i j ≡ true = sym (accepts-is (c .before .before .before .before .before .before .before .before)) ∙ c .before .before .before .before .before .before .before .if1 .taken in
@@ -87,12 +88,12 @@ returns c =
       (
         spread-same w h _ (done .0)
             (λ k x y hk hx hy.
-            covered k w h i j x y (blockAccepted scene picture) (λ a e. termBy curve (packedPicture w h out k) (displacedBy (displacementIn k (displacementOf scene picture a e)) (picture k)) x y) hx hy yes
-            ∙ ap (λ (t : ℕ). gate (eqb (y / unitOf k) i) (gate (eqb (x / unitOf k) j) t)) (sym (term-at curve scene picture k x y))),
+            covered k w h i j x y (blockAccepted scene picture) (λ a e. termBy curve (packedPicture w h out k) (sampleIn half k (displacementOf scene picture a e) (picture k)) x y) hx hy yes
+            ∙ ap (λ (t : ℕ). gate (eqb (y / unitOf k) i) (gate (eqb (x / unitOf k) j) t)) (sym (term-at (s .args .choice) curve scene picture k x y))),
         spread-same w h _ (done .1)
             (λ k x y hk hx hy.
-            covered k w h i j x y (blockAccepted scene picture) (λ a e. shareBy curve (packedPicture w h out k) (displacedBy (displacementIn k (displacementOf scene picture a e)) (picture k)) x y) hx hy yes
-            ∙ ap (λ (t : ℕ). gate (eqb (y / unitOf k) i) (gate (eqb (x / unitOf k) j) t)) (sym (share-at curve scene picture k x y))),
+            covered k w h i j x y (blockAccepted scene picture) (λ a e. shareBy curve (packedPicture w h out k) (sampleIn half k (displacementOf scene picture a e) (picture k)) x y) hx hy yes
+            ∙ ap (λ (t : ℕ). gate (eqb (y / unitOf k) i) (gate (eqb (x / unitOf k) j) t)) (sym (share-at (s .args .choice) curve scene picture k x y))),
       ),
     )
 
@@ -107,6 +108,7 @@ returns-2 c =
     let j = s .args .j in
     let out = s .args .out .now in
     let curve = s .args .curve .now in
+    let half = s .args .choice .«half_sample» in
     let scene = packedScene w h out in
     let picture = pictureOf (s .args .bytes .now) f in
     let none : blockAccepted scene picture i j ≡ false = sym (accepts-is (c .before)) ∙ c .if1 .left in (
@@ -114,12 +116,12 @@ returns-2 c =
       (
         spread-none w h _ (s .args .sums .now)
             (λ k x y hx hy.
-            ap (λ (t : ℕ). gate (eqb (y / unitOf k) i) (gate (eqb (x / unitOf k) j) t)) (term-at curve scene picture k x y)
-            ∙ uncovered k w h i j x y (blockAccepted scene picture) (λ a e. termBy curve (packedPicture w h out k) (displacedBy (displacementIn k (displacementOf scene picture a e)) (picture k)) x y) none),
+            ap (λ (t : ℕ). gate (eqb (y / unitOf k) i) (gate (eqb (x / unitOf k) j) t)) (term-at (s .args .choice) curve scene picture k x y)
+            ∙ uncovered k w h i j x y (blockAccepted scene picture) (λ a e. termBy curve (packedPicture w h out k) (sampleIn half k (displacementOf scene picture a e) (picture k)) x y) none),
         spread-none w h _ (s .args .weights .now)
             (λ k x y hx hy.
-            ap (λ (t : ℕ). gate (eqb (y / unitOf k) i) (gate (eqb (x / unitOf k) j) t)) (share-at curve scene picture k x y)
-            ∙ uncovered k w h i j x y (blockAccepted scene picture) (λ a e. shareBy curve (packedPicture w h out k) (displacedBy (displacementIn k (displacementOf scene picture a e)) (picture k)) x y) none),
+            ap (λ (t : ℕ). gate (eqb (y / unitOf k) i) (gate (eqb (x / unitOf k) j) t)) (share-at (s .args .choice) curve scene picture k x y)
+            ∙ uncovered k w h i j x y (blockAccepted scene picture) (λ a e. shareBy curve (packedPicture w h out k) (sampleIn half k (displacementOf scene picture a e) (picture k)) x y) none),
       ),
     )
 

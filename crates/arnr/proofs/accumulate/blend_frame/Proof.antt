@@ -21,15 +21,15 @@ use Rattle.arnr.proofs.accumulate.blend_frame.Statement.{statement}
 use Rattle.arnr.proofs.accumulate.blend_frame.Tie as tie
 
 abbrev Inv-loop : tie.InvT-loop
-Inv-loop bytes f curve out sums₀ weights₀ rows count₀ i₀ sums weights count i =
+Inv-loop bytes f choice curve out sums₀ weights₀ rows count₀ i₀ sums weights count i =
     (i ≤ rows)
     × (count ≡ sumBelow (λ a. sumBelow (λ b. gate (blockAccepted (packedScene (f .width) (f .height) out) (pictureOf bytes f) a b) 1) (gridSide (f .width))) i)
     × (count ≤ 1024 * i)
-    × Spread (f .width) (f .height) (λ k x y. gate (ltb (y / unitOf k) i) (curveTerm curve (packedScene (f .width) (f .height) out) (pictureOf bytes f) k x y)) sums₀ sums
-    × Spread (f .width) (f .height) (λ k x y. gate (ltb (y / unitOf k) i) (curveShare curve (packedScene (f .width) (f .height) out) (pictureOf bytes f) k x y)) weights₀ weights
+    × Spread (f .width) (f .height) (λ k x y. gate (ltb (y / unitOf k) i) (curveTerm choice curve (packedScene (f .width) (f .height) out) (pictureOf bytes f) k x y)) sums₀ sums
+    × Spread (f .width) (f .height) (λ k x y. gate (ltb (y / unitOf k) i) (curveShare choice curve (packedScene (f .width) (f .height) out) (pictureOf bytes f) k x y)) weights₀ weights
 
 abbrev μ-loop : tie.MeasureT-loop
-μ-loop bytes f curve out sums₀ weights₀ rows count₀ i₀ sums weights count i = rows - i
+μ-loop bytes f choice curve out sums₀ weights₀ rows count₀ i₀ sums weights count i = rows - i
 
 size : (s : tie.Start Inv-loop μ-loop) → (s .args .f .width ≤ 16383) × (0 < s .args .f .width) × (s .args .f .height ≤ 16383)
 size s = let f = s .pre .0 .fits 0 (omega arith) in (f .wide .1, f .wide .0, f .high .1)
@@ -44,8 +44,8 @@ module _ (l : tie.At-loop Inv-loop μ-loop) where
       let s = l .before .before .before .before .before .before in
       let light = s .pre .1 .1 .0 in
       spread-slack (s .args .f .width) (s .args .f .height) (l .loop .inv .3) (l .loop .inv .4) 5 1 (size s .1)
-      (λ k x y. gate-most _ _ 4080 (term-light (s .args .curve .now) _ _ k x y light (byte k)))
-      (λ k x y. gate-most _ _ 16 (share-light (s .args .curve .now) _ _ k x y light)) (s .pre .1 .1 .1)
+      (λ k x y. gate-most _ _ 4080 (term-light (s .args .choice) (s .args .curve .now) _ _ k x y light (byte k)))
+      (λ k x y. gate-most _ _ 16 (share-light (s .args .choice) (s .args .curve .now) _ _ k x y light)) (s .pre .1 .1 .1)
 
   lent : Lent (packedSize (l .before .before .before .before .before .before .args .f .width) (l .before .before .before .before .before .before .args .f .height)) (l .before .before .before .before .before .before .args .out .now) (l .loop .sums) (l .loop .weights)
   lent = spread-lent (l .before .before .before .before .before .before .args .f .width) (l .before .before .before .before .before .before .args .f .height) (l .loop .inv .3) (l .loop .inv .4) _ _ (l .before .before .before .before .before .before .pre .1 .0)

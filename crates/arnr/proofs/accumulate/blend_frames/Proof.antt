@@ -21,15 +21,15 @@ use Rattle.arnr.proofs.accumulate.blend_frames.Statement.{statement}
 use Rattle.arnr.proofs.accumulate.blend_frames.Tie as tie
 
 abbrev Inv-loop : tie.InvT-loop
-Inv-loop bytes numbers count centre w h curve out sums₀ weights₀ total₀ g₀ sums weights total g =
+Inv-loop bytes numbers count centre w h choice curve out sums₀ weights₀ total₀ g₀ sums weights total g =
     (g ≤ count)
-    × (total ≡ sumOver (otherBlocks curve (packedScene w h out)) (othersOf bytes numbers centre g))
+    × (total ≡ sumOver (otherBlocks choice curve (packedScene w h out)) (othersOf bytes numbers centre g))
     × (total ≤ 1048576 * g)
-    × Spread w h (λ k x y. sumOver (λ f. otherTerm curve (packedScene w h out) f k x y) (othersOf bytes numbers centre g)) sums₀ sums
-    × Spread w h (λ k x y. sumOver (λ f. otherShare curve (packedScene w h out) f k x y) (othersOf bytes numbers centre g)) weights₀ weights
+    × Spread w h (λ k x y. sumOver (λ f. otherTerm choice curve (packedScene w h out) f k x y) (othersOf bytes numbers centre g)) sums₀ sums
+    × Spread w h (λ k x y. sumOver (λ f. otherShare choice curve (packedScene w h out) f k x y) (othersOf bytes numbers centre g)) weights₀ weights
 
 abbrev μ-loop : tie.MeasureT-loop
-μ-loop bytes numbers count centre w h curve out sums₀ weights₀ total₀ g₀ sums weights total g = count - g
+μ-loop bytes numbers count centre w h choice curve out sums₀ weights₀ total₀ g₀ sums weights total g = count - g
 
 -- what holds at one size holds at an equal one
 sized : (P : ℕ → ℕ → Type 0) {w w′ h h′ : ℕ} → w ≡ w′ → h ≡ h′ → P w h → P w′ h′
@@ -51,8 +51,8 @@ module _ (l : tie.At-loop Inv-loop μ-loop) where
       let s = l .before .before .before .before .before .before in
       let light = s .pre .1 .1 .1 .0 in
       spread-slack (s .args .w) (s .args .h) (l .loop .inv .3) (l .loop .inv .4) 6 1024 (s .pre .1 .0 .1)
-      (λ k x y. le-trans (others-most (s .args .bytes .now) (s .args .numbers .now) (s .args .centre) _ 4080 (l .loop .g) (λ g. other-term-light (s .args .curve .now) _ _ k x y light (byte g k))) (mul-le-mul-right 4080 few))
-      (λ k x y. le-trans (others-most (s .args .bytes .now) (s .args .numbers .now) (s .args .centre) _ 16 (l .loop .g) (λ g. other-share-light (s .args .curve .now) _ _ k x y light)) (mul-le-mul-right 16 few))
+      (λ k x y. le-trans (others-most (s .args .bytes .now) (s .args .numbers .now) (s .args .centre) _ 4080 (l .loop .g) (λ g. other-term-light (s .args .choice) (s .args .curve .now) _ _ k x y light (byte g k))) (mul-le-mul-right 4080 few))
+      (λ k x y. le-trans (others-most (s .args .bytes .now) (s .args .numbers .now) (s .args .centre) _ 16 (l .loop .g) (λ g. other-share-light (s .args .choice) (s .args .curve .now) _ _ k x y light)) (mul-le-mul-right 16 few))
       (s .pre .1 .1 .1 .1)
 
   lent : Lent (packedSize (l .before .before .before .before .before .before .args .w) (l .before .before .before .before .before .before .args .h)) (l .before .before .before .before .before .before .args .out .now) (l .loop .sums) (l .loop .weights)
@@ -142,14 +142,14 @@ loop-again-2 c =
     let more : (t : Other → ℕ) → sumOver t (othersOf bytes numbers (a .centre) (l .g)) + t (otherOf bytes f) ≡ sumOver t (othersOf bytes numbers (a .centre) (l .g + 1))
     = λ t. sym (others-more bytes numbers (a .centre) t (l .g) (c .before .before .before .before .before .before .before .before .before .before .before .if1 .left)) in
     let new = c .before .before .before .before .blend-frame in
-    let counted = sized (λ w h. new .result ≡ acceptedIn (curveRule cut (packedScene w h out)) (packedScene w h out) (pictureOf bytes f)) (size .0) (size .1) (done .0 .0) in
-    let terms = sized-spread (λ w h. curveTerm cut (packedScene w h out) (pictureOf bytes f)) (size .0) (size .1) (done .1 .0) in
-    let shares = sized-spread (λ w h. curveShare cut (packedScene w h out) (pictureOf bytes f)) (size .0) (size .1) (done .1 .1) in (
+    let counted = sized (λ w h. new .result ≡ acceptedIn (curveRule (a .choice) cut (packedScene w h out)) (packedScene w h out) (pictureOf bytes f)) (size .0) (size .1) (done .0 .0) in
+    let terms = sized-spread (λ w h. curveTerm (a .choice) cut (packedScene w h out) (pictureOf bytes f)) (size .0) (size .1) (done .1 .0) in
+    let shares = sized-spread (λ w h. curveShare (a .choice) cut (packedScene w h out) (pictureOf bytes f)) (size .0) (size .1) (done .1 .1) in (
       omega (arith, c .before .before .before .before .before .before .before .before .before .before .before .before .loop-test .taken),
-      ap (λ (t : ℕ). t + new .result) (l .inv .1) ∙ ap (λ (t : ℕ). sumOver (otherBlocks (a .curve .now) (packedScene (a .w) (a .h) out)) (othersOf bytes numbers (a .centre) (l .g)) + t) counted ∙ more _,
+      ap (λ (t : ℕ). t + new .result) (l .inv .1) ∙ ap (λ (t : ℕ). sumOver (otherBlocks (a .choice) (a .curve .now) (packedScene (a .w) (a .h) out)) (othersOf bytes numbers (a .centre) (l .g)) + t) counted ∙ more _,
       omega (arith, l .inv .2, done .0 .1),
-      spread-then (a .w) (a .h) _ (l .inv .3) terms (λ k x y hx hy. more (λ p. otherTerm (a .curve .now) (packedScene (a .w) (a .h) out) p k x y)),
-      spread-then (a .w) (a .h) _ (l .inv .4) shares (λ k x y hx hy. more (λ p. otherShare (a .curve .now) (packedScene (a .w) (a .h) out) p k x y)),
+      spread-then (a .w) (a .h) _ (l .inv .3) terms (λ k x y hx hy. more (λ p. otherTerm (a .choice) (a .curve .now) (packedScene (a .w) (a .h) out) p k x y)),
+      spread-then (a .w) (a .h) _ (l .inv .4) shares (λ k x y hx hy. more (λ p. otherShare (a .choice) (a .curve .now) (packedScene (a .w) (a .h) out) p k x y)),
     )
 
 same-length : tie.Need-same-length Inv-loop μ-loop

@@ -21,15 +21,15 @@ use Rattle.arnr.proofs.accumulate.blend_grid_row.Statement.{statement}
 use Rattle.arnr.proofs.accumulate.blend_grid_row.Tie as tie
 
 abbrev Inv-loop : tie.InvT-loop
-Inv-loop bytes f i curve out sums₀ weights₀ columns count₀ j₀ sums weights count j =
+Inv-loop bytes f i choice curve out sums₀ weights₀ columns count₀ j₀ sums weights count j =
     (j ≤ columns)
     × (count ≡ sumBelow (λ b. gate (blockAccepted (packedScene (f .width) (f .height) out) (pictureOf bytes f) i b) 1) j)
     × (count ≤ j)
-    × Spread (f .width) (f .height) (λ k x y. gate (eqb (y / unitOf k) i) (gate (ltb (x / unitOf k) j) (curveTerm curve (packedScene (f .width) (f .height) out) (pictureOf bytes f) k x y))) sums₀ sums
-    × Spread (f .width) (f .height) (λ k x y. gate (eqb (y / unitOf k) i) (gate (ltb (x / unitOf k) j) (curveShare curve (packedScene (f .width) (f .height) out) (pictureOf bytes f) k x y))) weights₀ weights
+    × Spread (f .width) (f .height) (λ k x y. gate (eqb (y / unitOf k) i) (gate (ltb (x / unitOf k) j) (curveTerm choice curve (packedScene (f .width) (f .height) out) (pictureOf bytes f) k x y))) sums₀ sums
+    × Spread (f .width) (f .height) (λ k x y. gate (eqb (y / unitOf k) i) (gate (ltb (x / unitOf k) j) (curveShare choice curve (packedScene (f .width) (f .height) out) (pictureOf bytes f) k x y))) weights₀ weights
 
 abbrev μ-loop : tie.MeasureT-loop
-μ-loop bytes f i curve out sums₀ weights₀ columns count₀ j₀ sums weights count j = columns - j
+μ-loop bytes f i choice curve out sums₀ weights₀ columns count₀ j₀ sums weights count j = columns - j
 
 size : (s : tie.Start Inv-loop μ-loop) → (s .args .f .width ≤ 16383) × (0 < s .args .f .width)
 size s = let f = s .pre .0 .fits 0 (omega arith) in (f .wide .1, f .wide .0)
@@ -44,8 +44,8 @@ module _ (l : tie.At-loop Inv-loop μ-loop) where
       let s = l .before .before .before .before .before .before in
       let light = s .pre .1 .1 .1 .0 in
       spread-slack (s .args .f .width) (s .args .f .height) (l .loop .inv .3) (l .loop .inv .4) 4 1 (size s .1)
-      (λ k x y. gate-most _ _ 4080 (gate-most _ _ 4080 (term-light (s .args .curve .now) _ _ k x y light (byte k))))
-      (λ k x y. gate-most _ _ 16 (gate-most _ _ 16 (share-light (s .args .curve .now) _ _ k x y light))) (s .pre .1 .1 .1 .1)
+      (λ k x y. gate-most _ _ 4080 (gate-most _ _ 4080 (term-light (s .args .choice) (s .args .curve .now) _ _ k x y light (byte k))))
+      (λ k x y. gate-most _ _ 16 (gate-most _ _ 16 (share-light (s .args .choice) (s .args .curve .now) _ _ k x y light))) (s .pre .1 .1 .1 .1)
 
   lent : Lent (packedSize (l .before .before .before .before .before .before .args .f .width) (l .before .before .before .before .before .before .args .f .height)) (l .before .before .before .before .before .before .args .out .now) (l .loop .sums) (l .loop .weights)
   lent = spread-lent (l .before .before .before .before .before .before .args .f .width) (l .before .before .before .before .before .before .args .f .height) (l .loop .inv .3) (l .loop .inv .4) _ _ (l .before .before .before .before .before .before .pre .1 .1 .0)

@@ -7,7 +7,8 @@ use Rattle.laws.specs.Tabulate.{tabulate}
 use Rattle.weights.specs.Weights.{weightRead}
 use Rattle.window.specs.Layout.{packedSize}
 use Rattle.window.specs.Frames.{frameCount}
-use Rattle.denoiser.specs.Window.{centreAt, sumAt, totalAt, denoisedAt, arnrRule}
+use Rattle.denoiser.specs.Window.{centreAt, sumAt, totalAt}
+use Rattle.denoiser.specs.Chroma.{ruleOf}
 use Rattle.denoiser.specs.Build.{Request, asked, sceneOf, windowOf}
 use Rattle.denoiser.specs.Internal.{Lent, Slack, Front, Shows, Legal}
 use Rattle.denoiser.proofs.Blends.{front-room, sums-show, weights-show, ready, output-shows, count-is}
@@ -47,22 +48,22 @@ module _ (a : tie.After-blend-frames) where
   byte : (i : ℕ) → getD (a .before .before .before .before .before .before .before .before .before .before .before .before .before .before .before .before .before .before .before .before .args .bytes .now) i 0 < 256
   byte i = omega (arith, a .before .before .before .before .before .before .before .before .before .before .before .before .before .before .before .before .before .before .before .shared-slice-known .given i)
 
-  sums-there : Shows (a .before .before .before .before .before .before .before .before .before .before .before .before .before .before .before .before .before .before .before .before .args .w) (a .before .before .before .before .before .before .before .before .before .before .before .before .before .before .before .before .before .before .before .before .args .h) (sumAt (arnrRule (sceneOf (request (a .before .before .before .before .before .before .before .before .before .before .before .before .before .before .before .before .before .before .before .before)))) (windowOf (request (a .before .before .before .before .before .before .before .before .before .before .before .before .before .before .before .before .before .before .before .before)))) (a .blend-frames .last .1 .1 .1 .1 .1 .1 .1 .1 .0)
+  sums-there : Shows (a .before .before .before .before .before .before .before .before .before .before .before .before .before .before .before .before .before .before .before .before .args .w) (a .before .before .before .before .before .before .before .before .before .before .before .before .before .before .before .before .before .before .before .before .args .h) (sumAt (ruleOf (a .before .before .before .before .before .before .before .before .before .before .before .before .before .before .before .before .before .before .before .before .args .choice) (sceneOf (request (a .before .before .before .before .before .before .before .before .before .before .before .before .before .before .before .before .before .before .before .before)))) (windowOf (request (a .before .before .before .before .before .before .before .before .before .before .before .before .before .before .before .before .before .before .before .before)))) (a .blend-frames .last .1 .1 .1 .1 .1 .1 .1 .1 .1 .0)
   sums-there =
       let s = a .before .before .before .before .before .before .before .before .before .before .before .before .before .before .before .before .before .before .before .before in
       let done = rw (a .before .before .before .before .before .before .before .before .before .before .before .before .before .before .curve .ensures) at (rw (a .before .before .before .before .before .frame-count .ensures) at (a .blend-frames .ensures .1 .0)) in
-      sums-show (request s) (s .args .w) (s .args .h) (s .pre .0) byte (s .args .output .now) (s .pre .1 .1) _ _ _ (sums-front (a .before .before .before .before .before .before .before .before .before .before)) done
+      sums-show (s .args .choice) (request s) (s .args .w) (s .args .h) (s .pre .0) byte (s .args .output .now) (s .pre .1 .1) _ _ _ (sums-front (a .before .before .before .before .before .before .before .before .before .before)) done
 
-  weights-there : Shows (a .before .before .before .before .before .before .before .before .before .before .before .before .before .before .before .before .before .before .before .before .args .w) (a .before .before .before .before .before .before .before .before .before .before .before .before .before .before .before .before .before .before .before .before .args .h) (totalAt (arnrRule (sceneOf (request (a .before .before .before .before .before .before .before .before .before .before .before .before .before .before .before .before .before .before .before .before)))) (windowOf (request (a .before .before .before .before .before .before .before .before .before .before .before .before .before .before .before .before .before .before .before .before)))) (a .blend-frames .last .1 .1 .1 .1 .1 .1 .1 .1 .1 .0)
+  weights-there : Shows (a .before .before .before .before .before .before .before .before .before .before .before .before .before .before .before .before .before .before .before .before .args .w) (a .before .before .before .before .before .before .before .before .before .before .before .before .before .before .before .before .before .before .before .before .args .h) (totalAt (ruleOf (a .before .before .before .before .before .before .before .before .before .before .before .before .before .before .before .before .before .before .before .before .args .choice) (sceneOf (request (a .before .before .before .before .before .before .before .before .before .before .before .before .before .before .before .before .before .before .before .before)))) (windowOf (request (a .before .before .before .before .before .before .before .before .before .before .before .before .before .before .before .before .before .before .before .before)))) (a .blend-frames .last .1 .1 .1 .1 .1 .1 .1 .1 .1 .1 .0)
   weights-there =
       let s = a .before .before .before .before .before .before .before .before .before .before .before .before .before .before .before .before .before .before .before .before in
       let done = rw (a .before .before .before .before .before .before .before .before .before .before .before .before .before .before .curve .ensures) at (rw (a .before .before .before .before .before .frame-count .ensures) at (a .blend-frames .ensures .1 .1)) in
-      weights-show (request s) (s .args .w) (s .args .h) (s .pre .0) byte (s .args .output .now) (s .pre .1 .1) _ _ _ (weights-front (a .before .before .before .before .before .before .before .before .before .before)) done
+      weights-show (s .args .choice) (request s) (s .args .w) (s .args .h) (s .pre .0) byte (s .args .output .now) (s .pre .1 .1) _ _ _ (weights-front (a .before .before .before .before .before .before .before .before .before .before)) done
 
-  sums-long : length (a .blend-frames .last .1 .1 .1 .1 .1 .1 .1 .1 .0) ≡ packedSize (a .before .before .before .before .before .before .before .before .before .before .before .before .before .before .before .before .before .before .before .before .args .w) (a .before .before .before .before .before .before .before .before .before .before .before .before .before .before .before .before .before .before .before .before .args .h)
+  sums-long : length (a .blend-frames .last .1 .1 .1 .1 .1 .1 .1 .1 .1 .0) ≡ packedSize (a .before .before .before .before .before .before .before .before .before .before .before .before .before .before .before .before .before .before .before .before .args .w) (a .before .before .before .before .before .before .before .before .before .before .before .before .before .before .before .before .before .before .before .before .args .h)
   sums-long = a .blend-frames .ensures .1 .0 .long ∙ sums-front (a .before .before .before .before .before .before .before .before .before .before) .long ∙ a .before .before .before .before .before .before .before .before .before .before .before .before .before .before .before .before .before .before .before .before .pre .1 .0 .of-sums
 
-  weights-long : length (a .blend-frames .last .1 .1 .1 .1 .1 .1 .1 .1 .1 .0) ≡ packedSize (a .before .before .before .before .before .before .before .before .before .before .before .before .before .before .before .before .before .before .before .before .args .w) (a .before .before .before .before .before .before .before .before .before .before .before .before .before .before .before .before .before .before .before .before .args .h)
+  weights-long : length (a .blend-frames .last .1 .1 .1 .1 .1 .1 .1 .1 .1 .1 .0) ≡ packedSize (a .before .before .before .before .before .before .before .before .before .before .before .before .before .before .before .before .before .before .before .before .args .w) (a .before .before .before .before .before .before .before .before .before .before .before .before .before .before .before .before .before .before .before .before .args .h)
   weights-long = a .blend-frames .ensures .1 .1 .long ∙ weights-front (a .before .before .before .before .before .before .before .before .before .before) .long ∙ a .before .before .before .before .before .before .before .before .before .before .before .before .before .before .before .before .before .before .before .before .pre .1 .0 .of-weights
 
 curve-requires : tie.Need-curve-requires
@@ -89,7 +90,7 @@ resolve-requires c κs =
     let s = c .before .before .before .before .before .before .before .before .before .before .before .before .before .before .before .before .before .before .before .before .before .before .before .before .before .before .before in
     let e = s .pre .1 .0 in (
       record { in-out = omega arith; in-sums = omega (arith, sums-long a, e .of-out); in-weights = omega (arith, weights-long a, e .of-out) },
-      λ i h. ready (request s) (s .args .w) (s .args .h) (s .pre .0) (byte a) _ _ (sums-there a) (weights-there a) i (omega (arith, e .of-out)),
+      λ i h. ready (s .args .choice) (request s) (s .args .w) (s .args .h) (s .pre .0) (byte a) _ _ (sums-there a) (weights-there a) i (omega (arith, e .of-out)),
     )
 
 same-length : tie.Need-same-length
@@ -111,9 +112,9 @@ returns c =
     let wide = s .pre .0 .wide .0 in
     let done = rw (a .before .before .before .before .before .before .before .before .before .before .before .before .before .before .curve .ensures) at (rw (a .before .before .before .before .before .frame-count .ensures) at (a .blend-frames .ensures .0)) in
     let front = rw (s .pre .1 .0 .of-out) at (c .before .before .resolve .ensures) in
-    let resolved = output-shows q w h (s .pre .0) (byte a) _ _ (sums-there a) (weights-there a) _ _ front in
+    let resolved = output-shows (s .args .choice) q w h (s .pre .0) (byte a) _ _ (sums-there a) (weights-there a) _ _ front in
     record {
-      accepted = done ∙ count-is q w h (s .pre .0) (byte a) (s .args .output .now) (s .pre .1 .1);
+      accepted = done ∙ count-is (s .args .choice) q w h (s .pre .0) (byte a) (s .args .output .now) (s .pre .1 .1);
       output = shows-is w h _ _ wide (front .long ∙ s .pre .1 .0 .of-out) resolved;
       sums = shows-is w h _ _ wide (sums-long a) (sums-there a);
       weights = shows-is w h _ _ wide (weights-long a) (weights-there a);

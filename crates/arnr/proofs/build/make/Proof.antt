@@ -8,6 +8,7 @@ use lib.Seq.{length-take-le, take-at}
 use Rattle.window.specs.Layout.{packedSize}
 use Rattle.window.specs.Frames.{frameAt}
 use Rattle.denoiser.specs.Window.{centreAt}
+use Rattle.denoiser.specs.Chroma.{ruleOf}
 use Rattle.denoiser.specs.Demand.{Held}
 use Rattle.denoiser.specs.Build.{Request, asked, sceneOf}
 use Rattle.denoiser.specs.Internal.{Shows}
@@ -35,7 +36,7 @@ module _ (a : tie.After-crop) where
 
   crop-shows : Shows (a .before .before .before .before .before .before .before .before .before .args .w) (a .before .before .before .before .before .before .before .before .before .args .h) (centreAt (sceneOf (request (a .before .before .before .before .before .before .before .before .before)))) (a .crop .last .1 .1 .0)
   crop-shows =
-      centre-shows (request (a .before .before .before .before .before .before .before .before .before)) (a .before .before .before .before .before .before .before .before .before .args .w) (a .before .before .before .before .before .before .before .before .before .args .h) (a .before .before .before .before .before .before .before .before .before .pre .0) _ (a .before .before .before .samples-in .ensures) _
+      centre-shows (ruleOf (a .before .before .before .before .before .before .before .before .before .args .choice)) (request (a .before .before .before .before .before .before .before .before .before)) (a .before .before .before .before .before .before .before .before .before .args .w) (a .before .before .before .before .before .before .before .before .before .args .h) (a .before .before .before .before .before .before .before .before .before .pre .0) _ (a .before .before .before .samples-in .ensures) _
       (rw (a .before .before .frame-at .ensures) at (a .crop .ensures .1))
 
 samples-in-requires : tie.Need-samples-in-requires
@@ -68,7 +69,7 @@ returns : tie.Need-returns
 returns c =
     let a = c .before .before .before .before in
     let s = c .before .before .before .before .before .before .before .before .before .before .before .before .before in
-    made-cropped (request s) (s .args .w) (s .args .h) (s .pre .0) _ (c .before .before .before .before .before .before .before .samples-in .ensures) (held s) _ (crop-long a) (crop-shows a)
+    made-cropped (ruleOf (s .args .choice)) (request s) (s .args .w) (s .args .h) (s .pre .0) _ (c .before .before .before .before .before .before .before .samples-in .ensures) (held s) _ (crop-long a) (crop-shows a)
     (crops-one (request s) (sym (c .before .frame-count .ensures) ∙ c .if1 .taken))
 
 same-length-2 : tie.Need-same-length-2
@@ -78,7 +79,7 @@ returns-2 : tie.Need-returns-2
 returns-2 c =
     let a = c .before .before .before .before .before in
     let s = c .before .before .before .before .before .before .before .before .before .before .before .before .before .before in
-    made-cropped (request s) (s .args .w) (s .args .h) (s .pre .0) _ (c .before .before .before .before .before .before .before .before .samples-in .ensures) (held s) _ (crop-long a) (crop-shows a)
+    made-cropped (ruleOf (s .args .choice)) (request s) (s .args .w) (s .args .h) (s .pre .0) _ (c .before .before .before .before .before .before .before .before .samples-in .ensures) (held s) _ (crop-long a) (crop-shows a)
     (crops-none (request s) (c .if2 .taken))
 
 slice-relend-prefix-blend : tie.Need-slice-relend-prefix-blend
@@ -131,7 +132,7 @@ returns-3 : tie.Need-returns-3
 returns-3 c =
     let a = c .before .before .before .before .before .before .before .before .before .before .before .before .before .before .before in
     let s = c .before .before .before .before .before .before .before .before .before .before .before .before .before .before .before .before .before .before .before .before .before .before .before .before in
-    made-blended (request s) (s .args .w) (s .args .h) (s .pre .0) _ (c .before .before .before .before .before .before .before .before .before .before .before .before .before .before .before .before .before .before .samples-in .ensures) (held s) (a .crop .last .1 .1 .0) (c .before .before .before .before .before .before .blend .result) (record { output = c .before .before .before .before .before .before .blend .last .1 .1 .1 .1 .1 .1 .0; sums = c .before .before .before .before .before .before .blend .last .1 .1 .1 .1 .1 .1 .1 .0; weights = c .before .before .before .before .before .before .blend .last .1 .1 .1 .1 .1 .1 .1 .1 .0 }) (crop-long a) (c .before .before .before .before .before .before .blend .ensures)
+    made-blended (ruleOf (s .args .choice)) (request s) (s .args .w) (s .args .h) (s .pre .0) _ (c .before .before .before .before .before .before .before .before .before .before .before .before .before .before .before .before .before .before .samples-in .ensures) (held s) (a .crop .last .1 .1 .0) (c .before .before .before .before .before .before .blend .result) (record { output = c .before .before .before .before .before .before .blend .last .1 .1 .1 .1 .1 .1 .1 .0; sums = c .before .before .before .before .before .before .blend .last .1 .1 .1 .1 .1 .1 .1 .1 .0; weights = c .before .before .before .before .before .before .blend .last .1 .1 .1 .1 .1 .1 .1 .1 .1 .0 }) (crop-long a) (c .before .before .before .before .before .before .blend .ensures)
     (crops-not (request s) (λ e. c .before .before .before .before .before .before .before .before .before .before .before .if1 .left (c .before .before .before .before .before .before .before .before .before .before .before .before .frame-count .ensures ∙ e)) (c .before .before .before .before .before .before .before .before .before .before .if2 .left))
 
 pub make-spec : {M : Type 1} → statement M

@@ -55,11 +55,7 @@ runs-inside-requires : tie.Need-runs-inside-requires
 runs-inside-requires c κs = search needs
 
 edge-requires : tie.Need-edge-requires
-edge-requires c κs =
-    let s = c .before .before .before .before .before in
-    let r = c .before .before .runs-inside .ensures (c .before .if1 .taken) in
-    let f = s .pre .0 in
-    (omega (arith, r .some, s .pre .1 .0 .wide), f .wide .1, search needs, search needs)
+edge-requires c κs = search needs
 
 edge-requires-2 : tie.Need-edge-requires-2
 edge-requires-2 c κs = search needs
