@@ -9,6 +9,8 @@ ghost use Rattle.weights.specs.Weights.{scale, weightRead};
 ghost use Rattle.weights.specs.Blend.{distanceBound};
 ghost use Rattle.window.specs.Frames.{frameCount, frameAt};
 ghost use Rattle.window.specs.Refusals.{given, checks};
+ghost use Rattle.denoiser.specs.Window.{arnrRule};
+ghost use Rattle.denoiser.specs.Chroma.{halfRule};
 ghost use Rattle.denoiser.specs.Build.{asked};
 ghost use Rattle.altref.specs.Records.{flat};
 ghost use Rattle.numbers.specs.Answers.{checkNumbers};
@@ -107,7 +109,7 @@ pub extern "C" fn vp8model_build_from_numbers(
     sums: &mut [u32],
     weights: &mut [u32],
 ) -> Build
-    ensures { λ r. ⌜ BuildExport (record {
+    ensures { λ r. ⌜ BuildExport arnrRule (record {
       request = asked (now (bytes .entry)) (now (numbers .entry)) centre strength;
       lent = record {
         output = now (output .entry);
@@ -135,7 +137,7 @@ pub extern "C" fn vp8model_build_arnr_altref(
     sums: &mut [u32],
     weights: &mut [u32],
 ) -> Build
-    ensures { λ r. ⌜ BuildExport (record {
+    ensures { λ r. ⌜ BuildExport arnrRule (record {
       request = asked (now (bytes .entry)) (flat (now (frames .entry))) centre strength;
       lent = record {
         output = now (output .entry);
@@ -150,5 +152,33 @@ pub extern "C" fn vp8model_build_arnr_altref(
 {
     let config = ArnrConfig { strength: strength };
     let answer = altref::build_arnr_altref(bytes, frames, centre, config, output, sums, weights);
+    numbers::build_numbers(answer)
+}
+
+#[no_mangle]
+pub extern "C" fn vp8model_build_half_sample(
+    bytes: &[u8],
+    numbers: &[u32],
+    centre: usize,
+    strength: u8,
+    output: &mut [u8],
+    sums: &mut [u32],
+    weights: &mut [u32],
+) -> Build
+    ensures { λ r. ⌜ BuildExport halfRule (record {
+      request = asked (now (bytes .entry)) (now (numbers .entry)) centre strength;
+      lent = record {
+        output = now (output .entry);
+        sums = now (sums .entry);
+        weights = now (weights .entry);
+      };
+    }) r (record {
+      output = now (output .exit);
+      sums = now (sums .exit);
+      weights = now (weights .exit);
+    }) ⌝ }
+{
+    let config = ArnrConfig { strength: strength };
+    let answer = arnr::build_half_sample(bytes, numbers, centre, config, output, sums, weights);
     numbers::build_numbers(answer)
 }

@@ -51,6 +51,7 @@ use denote.Exit.{yes}
 use Rattle.window.specs.declared.Frame.{Frame}
 use Rattle.window.proofs.Frame as T
 use Rattle.weights.specs.declared.ArnrConfig.{ArnrConfig}
+use Rattle.denoiser.specs.Window.{arnrRule}
 use Rattle.denoiser.specs.declared.BuildAnswer.{BuildAnswer}
 use Rattle.denoiser.specs.Demand.{Held}
 use Rattle.denoiser.specs.Build.{asked, BuildInput, BuildIs, buildOutcome}
@@ -189,7 +190,7 @@ module _ {M : Type 1} (𝓤 : URA M) (H : Heap 𝓤) (A : Atoms 𝓤) (W : Given
   Left d z os us ws =
       ‵ (R.the-row .own d (z ∷ [])) ∷ Tokens ∷ ‵ (finally u8 (out .name) os) ∷ ‵ (finally u32 (sums .name) us) ∷ ‵ (finally u32 (weights .name) ws) ∷ ‵ Bytes ∷ ‵ Frames ∷ []
 
-  exits : (d : Build) (z : Val) (os us ws : List ℕ) → BuildExport input d (held os us ws)
+  exits : (d : Build) (z : Val) (os us ws : List ℕ) → BuildExport arnrRule input d (held os us ws)
       → length os ≡ length (out .now) → length us ≡ length (sums .now) → length ws ≡ length (weights .now) → ent 𝓤 (⋆ 𝓤 H A (Left d z os us ws)) (Post z)
   exits d z os us ws e lo lu lw =
       qed W (Left d z os us ws) ∵
