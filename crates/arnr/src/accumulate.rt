@@ -376,51 +376,15 @@ fn blend_half(
     blend_square(&block, p, c, curve, at, out, sums, weights);
 }
 
-// Whether the block of plane k is filtered: in U and V, by half samples, where a component of the displacement is odd.
-fn filters(k: usize, d: Displacement, choice: Choice) -> bool
+// Whether a block is filtered in U and V: by half samples, where a component of its displacement is odd.
+fn filters(d: Displacement, choice: Choice) -> bool
     requires { ⌜ Short d ⌝ }
-    ensures { λ r. ⌜ r ≡ filteredIn (choice .«half_sample») k d ⌝ }
+    ensures { λ r. ⌜ r ≡ filteredIn (choice .«half_sample») 1 d ⌝ }
 {
-    if k == 0 {
-        return false;
-    }
     if choice.half_sample {
         return 0 < half::row(d.dx) + half::row(d.dy);
     }
     false
-}
-
-// One block of a frame at its displacement, in plane k, by the choice.
-fn blend_plane(
-    bytes: &[u8],
-    f: Frame,
-    k: usize,
-    b: Block,
-    d: Displacement,
-    choice: Choice,
-    curve: &[u32; 256],
-    out: &[u8],
-    sums: &mut [u32],
-    weights: &mut [u32],
-)
-    requires { ⌜ (k < 3) × Whole (now bytes) f ⌝ }
-    requires { ⌜ Lies b (f .width) (f .height) ⌝ }
-    requires { ⌜ Short d ⌝ }
-    requires { ⌜ Lent (packedSize (f .width) (f .height)) (now out) (now sums) (now weights) ⌝ }
-    requires { ⌜ Light (now curve) ⌝ }
-    requires { ⌜ Slack 2 (now sums) (now weights) ⌝ }
-    ensures { λ _. ⌜ Placed (offsetOf k (f .width) (f .height)) (sideOf k (f .width)) (sideOf k (f .height)) (λ x y. gate (within (blockIn k b) x y)
-        (termBy (now (curve .entry)) (packedPicture (f .width) (f .height) (now (out .entry)) k) (sampleIn (choice .«half_sample») k d (pictureOf
-        (now (bytes .entry)) f k)) x y)) (now (sums .entry)) (now (sums .exit)) ⌝ }
-    ensures { λ _. ⌜ Placed (offsetOf k (f .width) (f .height)) (sideOf k (f .width)) (sideOf k (f .height)) (λ x y. gate (within (blockIn k b) x y)
-        (shareBy (now (curve .entry)) (packedPicture (f .width) (f .height) (now (out .entry)) k) (sampleIn (choice .«half_sample») k d (pictureOf
-        (now (bytes .entry)) f k)) x y)) (now (weights .entry)) (now (weights .exit)) ⌝ }
-{
-    if filters(k, d, choice) {
-        blend_half(bytes, f, k, b, d, curve, out, sums, weights);
-    } else {
-        blend_in(bytes, f, k, b, d, curve, out, sums, weights);
-    }
 }
 
 // One block of a frame at its displacement, in all three planes.
@@ -448,9 +412,14 @@ fn blend_planes(
         (f .height) (now (out .entry)) k) (sampleIn (choice .«half_sample») k d (pictureOf (now (bytes .entry)) f k)) x y)) (now (weights .entry))
         (now (weights .exit)) ⌝ }
 {
-    blend_plane(bytes, f, 0, b, d, choice, curve, out, sums, weights);
-    blend_plane(bytes, f, 1, b, d, choice, curve, out, sums, weights);
-    blend_plane(bytes, f, 2, b, d, choice, curve, out, sums, weights);
+    blend_in(bytes, f, 0, b, d, curve, out, sums, weights);
+    if filters(d, choice) {
+        blend_half(bytes, f, 1, b, d, curve, out, sums, weights);
+        blend_half(bytes, f, 2, b, d, curve, out, sums, weights);
+    } else {
+        blend_in(bytes, f, 1, b, d, curve, out, sums, weights);
+        blend_in(bytes, f, 2, b, d, curve, out, sums, weights);
+    }
 }
 
 // The last best of the block in row i and column j of the grid.

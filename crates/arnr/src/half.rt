@@ -2,9 +2,9 @@
 use crate::sad;
 use denoiser::Displacement;
 use denoiser::PlaneNumbers;
-use sixtap::Interpolated;
+use sixtap::halfway;
 ghost use mathlib.Core.Path.{_≡_};
-ghost use Prim.Native.Nat.{_+_, _*_, _<_, _≤_};
+ghost use Prim.Native.Nat.{_+_, _*_, _%_, _<_, _≤_, min};
 ghost use lib.IntN.{pos, _-ℤ_};
 ghost use lib.ListN.{length};
 ghost use Rattle.laws.specs.Signed.{above, below};
@@ -21,7 +21,7 @@ ghost use Rattle.denoiser.specs.Internal.{Fits, Short, planeIn, haloBy, haloEnt
 // The six-tap row of a component: 0 where it is even, 4 where it is odd.
 pub(crate) fn row(v: i32) -> u32
     requires { ⌜ (above v ≤ 15) × (below v ≤ 15) ⌝ }
-    ensures { λ r. ⌜ (r ≡ halfRow v) × (r ≤ 4) ⌝ }
+    ensures { λ r. ⌜ (r ≡ halfRow v) × (r ≤ 4) × (r % 4 ≡ 0) ⌝ }
 {
     ((v - (v >> 1) * 2) * 4) as u32
 }
@@ -95,20 +95,27 @@ fn six(a: &[u8], at: usize, step: usize) -> [u8; 6]
     ]
 }
 
-// One sample of a pass by the six-tap row s.
+// A sample as it is.
+fn kept(x: u8) -> u8
+    ensures { λ r. ⌜ r ≡ min x 255 ⌝ }
+{
+    x
+}
+
+// One sample of a pass by the six-tap row 0, which copies, or 4.
 fn passed(s: u32, support: [u8; 6]) -> u8
-    requires { ⌜ s ≤ 7 ⌝ }
+    requires { ⌜ (s ≤ 4) × (s % 4 ≡ 0) ⌝ }
     ensures { λ r. ⌜ r ≡ filteredList sixtap s support ⌝ }
 {
-    match sixtap::interp(s, support) {
-        Interpolated::Sample(sample) => sample,
-        Interpolated::BadSelector => 0,
+    if s == 0 {
+        return kept(support[2]);
     }
+    halfway(support)
 }
 
 // Row r of the first pass.
 fn across_row(out: &mut [u8; 104], halo: &[u8; 208], s: u32, r: usize)
-    requires { ⌜ (r < 13) × (s ≤ 7) × (length (now halo) ≡ 208) × Filling (acrossEight s (now halo)) 104 (now out) (r * 8) ⌝ }
+    requires { ⌜ (r < 13) × (s ≤ 4) × (s % 4 ≡ 0) × (length (now halo) ≡ 208) × Filling (acrossEight s (now halo)) 104 (now out) (r * 8) ⌝ }
     ensures { λ _. ⌜ Filling (acrossEight s (now (halo .entry))) 104 (now (out .exit)) (r * 8 + 8) ⌝ }
 {
     for k in 0..8 {
@@ -119,7 +126,7 @@ fn across_row(out: &mut [u8; 104], halo: &[u8; 208], s: u32, r: usize)
 
 // The first pass, across: 13 rows of 8.
 fn across(halo: [u8; 208], s: u32) -> [u8; 104]
-    requires { ⌜ s ≤ 7 ⌝ }
+    requires { ⌜ (s ≤ 4) × (s % 4 ≡ 0) ⌝ }
     ensures { λ r. ⌜ r ≡ tabulate 104 (acrossEight s halo) ⌝ }
 {
     let mut out = [0u8; 104];
@@ -131,7 +138,7 @@ fn across(halo: [u8; 208], s: u32) -> [u8; 104]
 
 // The second pass, down: 8 rows of 8.
 fn down(rows: [u8; 104], s: u32) -> [u8; 64]
-    requires { ⌜ s ≤ 7 ⌝ }
+    requires { ⌜ (s ≤ 4) × (s % 4 ≡ 0) ⌝ }
     ensures { λ r. ⌜ r ≡ tabulate 64 (downEight s rows) ⌝ }
 {
     let mut out = [0u8; 64];

@@ -173,11 +173,15 @@ copied-is true (suc k) d at e byte x y =
     let even : Even d = record { across = omega (arith, row-is (d .dx)); down = omega (arith, row-is (d .dy)) } in
     half-even d at even (λ a b. let h = byte a b in omega arith) .old k x y
 
--- only U and V are filtered
-pub filtered-chroma : (half : Bool) (k : ℕ) (d : Displacement) → filteredIn half k d ≡ true → 0 < k
+-- Y is never filtered
+pub luma-copied : (half : Bool) (d : Displacement) → filteredIn half 0 d ≡ false
 unfolding filteredIn
-filtered-chroma half zero d e = absurd (no-true e)
-filtered-chroma half (suc k) d e = omega arith
+luma-copied half d = refl
+
+-- U and V are filtered alike
+pub chroma-alike : (half : Bool) (d : Displacement) → filteredIn half 1 d ≡ filteredIn half 2 d
+unfolding filteredIn
+chroma-alike half d = refl
 
 -- a sample's place, seen from the first of these and from the pass
 place-is : (x a k : ℕ) (w : ℤ) → pos (x + (a + k)) +ℤ (w -ℤ pos 2) ≡ pos x +ℤ pos a +ℤ pos k -ℤ pos 2 +ℤ w

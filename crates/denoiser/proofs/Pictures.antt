@@ -10,19 +10,21 @@ use lib.IntN.{ℤ, pos}
 use lib.ListN.{getD, List·getD-eq-default}
 use Rattle.laws.specs.Tabulate.{tabulate}
 use Rattle.laws.proofs.Tabulate.{length-tabulate, getD-tabulate}
-use Rattle.prediction.specs.Plane.{sampleAt}
+use Rattle.prediction.specs.Plane.{Samples, sampleAt}
 use Rattle.window.specs.declared.Frame.{Frame}
 use Rattle.window.specs.Frames.{planeOf}
-use Rattle.denoiser.specs.Grid.{unitOf}
+use Rattle.denoiser.specs.Grid.{blockIn, unitOf}
+use Rattle.denoiser.specs.declared.Block.{Block}
+use Rattle.denoiser.specs.declared.Displacement.{Displacement}
 use Rattle.denoiser.specs.declared.Choice.{Choice}
 use Rattle.denoiser.specs.Search.{displacedBy, displacementIn}
 use Rattle.denoiser.specs.Window.{Picture, Other, Scene, gate, shareOf, displacementOf, blockAccepted}
-use Rattle.denoiser.specs.Chroma.{sampleIn, chosenSample}
+use Rattle.denoiser.specs.Chroma.{halfSample, sampleIn, chosenSample}
 use Rattle.denoiser.specs.Pictures.{pictureOf}
-use Rattle.denoiser.specs.Internal.{Light, shareBy, termBy, curveRule, curveShare, curveTerm, cappedCurve, otherShare, otherTerm}
+use Rattle.denoiser.specs.Internal.{Light, Placed, within, filteredIn, shareBy, termBy, curveRule, curveShare, curveTerm, cappedCurve, otherShare, otherTerm}
 use Rattle.denoiser.proofs.Gates.{gate-most, gate-times}
-use Rattle.denoiser.proofs.Halves.{sample-in-byte}
-use Rattle.denoiser.proofs.Place.{share-most, term-most}
+use Rattle.denoiser.proofs.Halves.{sample-in-byte, filtered-is, copied-is}
+use Rattle.denoiser.proofs.Place.{placed-same, share-most, term-most}
 use Rattle.denoiser.proofs.Planes.{sample-byte}
 
 -- every sample of a picture is a byte
@@ -69,3 +71,20 @@ module _ (o : Choice) (curve : List ℕ) (s : Scene) (f : Other) (k x y : ℕ) (
   pub other-term-light : ((a b : ℤ) → f .picture k a b ≤ 255) → otherTerm o curve s f k x y ≤ 4080
   unfolding otherTerm
   other-term-light byte = term-light o (cappedCurve curve (f .cap)) s (f .picture) k x y (capped-light curve (f .cap) light) byte
+
+-- what a block adds in plane k by the choice: the copied samples where it is not filtered, and the half samples where it is
+module _ (o : Choice) (bytes : List ℕ) (f : Frame) (k : ℕ) (b : Block) (d : Displacement) (curve : List ℕ) (centre : Samples) (at columns rows : ℕ) (old now : List ℕ)
+    (g : List ℕ → Samples → Samples → ℕ → ℕ → ℕ) (goes : (s t : Samples) (x y : ℕ) → s (pos x) (pos y) ≡ t (pos x) (pos y) → g curve centre s x y ≡ g curve centre t x y) where
+  pub by-copies : filteredIn (o .«half_sample») k d ≡ false → ((i : ℕ) → getD bytes i 0 < 256)
+      → Placed at columns rows (λ x y. gate (within (blockIn k b) x y) (g curve centre (displacedBy (displacementIn k d) (pictureOf bytes f k)) x y)) old now
+      → Placed at columns rows (λ x y. gate (within (blockIn k b) x y) (g curve centre (sampleIn (o .«half_sample») k d (pictureOf bytes f k)) x y)) old now
+  by-copies e byte p =
+      placed-same at columns rows _ p
+      (λ x y. ap (gate (within (blockIn k b) x y)) (goes _ _ x y (sym (copied-is (o .«half_sample») k d (pictureOf bytes f k) e (picture-byte bytes f byte k) (pos x) (pos y)))))
+
+  pub by-halves : filteredIn (o .«half_sample») k d ≡ true
+      → Placed at columns rows (λ x y. gate (within (blockIn k b) x y) (g curve centre (halfSample d (pictureOf bytes f k)) x y)) old now
+      → Placed at columns rows (λ x y. gate (within (blockIn k b) x y) (g curve centre (sampleIn (o .«half_sample») k d (pictureOf bytes f k)) x y)) old now
+  by-halves e p =
+      placed-same at columns rows _ p
+      (λ x y. ap (gate (within (blockIn k b) x y)) (goes _ _ x y (ap (λ (s : Samples). s (pos x) (pos y)) (sym (filtered-is (o .«half_sample») k d (pictureOf bytes f k) e)))))

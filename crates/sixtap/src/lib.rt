@@ -125,6 +125,14 @@ pub fn interp(selector: u32, support: [u8; 6]) -> Interpolated
     Interpolated::Sample(filter(t, support))
 }
 
+// The same by row 4, which stands halfway between the third sample and the fourth: a call for one row, which the compiler does side by side.
+pub fn halfway(support: [u8; 6]) -> u8
+    ensures { λ r. ⌜ r ≡ filtered (sixtap 4) (λ k. getD support k 0) ⌝ }
+{
+    let t = row(4);
+    filter(t, support)
+}
+
 // Six samples, the first at `at`, each `step` past the one before.
 fn gather(a: &[u8], at: usize, step: usize) -> [u8; 6]
     requires { ⌜ (at + 5 * step < length (now a)) × (step ≤ 16) ⌝ }

@@ -1,6 +1,6 @@
--- `arnr::accumulate::blend_planes` meets its contract: each plane takes up room for one frame. Assumes nothing.
-use mathlib.Core.Path.{_≡_}
-use mathlib.Core.Bool.{Bool}
+-- `arnr::accumulate::blend_planes` meets its contract: each plane takes up room for one frame; U and V are filtered or copied. Assumes nothing.
+use mathlib.Core.Path.{_≡_, sym, _∙_}
+use mathlib.Core.Bool.{Bool, true, false}
 use mathlib.Core.List.{List}
 use Prim.Native.Nat.{ℕ, _+_, _*_, _≤_, _<_}
 use lib.IntN.{pos}
@@ -10,14 +10,15 @@ use Rattle.window.specs.Layout.{sideOf, offsetOf, packedSize}
 use Rattle.denoiser.specs.declared.Block.{Block}
 use Rattle.denoiser.specs.declared.Displacement.{Displacement}
 use Rattle.denoiser.specs.Grid.{blockIn}
-use Rattle.denoiser.specs.Chroma.{sampleIn}
+use Rattle.denoiser.specs.Search.{displacedBy, displacementIn}
+use Rattle.denoiser.specs.Chroma.{halfSample, sampleIn}
 use Rattle.denoiser.specs.Window.{gate}
 use Rattle.denoiser.specs.Pictures.{pictureOf}
-use Rattle.denoiser.specs.Internal.{Lent, Slack, Light, Whole, Placed, within, termBy, shareBy, packedPicture}
+use Rattle.denoiser.specs.Internal.{Lent, Slack, Light, Whole, Placed, within, filteredIn, termBy, shareBy, packedPicture}
 use Rattle.denoiser.proofs.Gates.{gate-most}
-use Rattle.denoiser.proofs.Halves.{sample-in-byte}
-use Rattle.denoiser.proofs.Place.{placed-room, term-most, share-most}
-use Rattle.denoiser.proofs.Pictures.{picture-byte}
+use Rattle.denoiser.proofs.Halves.{sample-in-byte, luma-copied, chroma-alike}
+use Rattle.denoiser.proofs.Place.{placed-room, term-most, share-most, term-goes, share-goes}
+use Rattle.denoiser.proofs.Pictures.{picture-byte, by-copies, by-halves}
 use Rattle.denoiser.proofs.Spreads.{spread-three}
 use native.Mathlib.Omega.{arith}
 use borrow.Author.Needs.{needs}
@@ -45,45 +46,95 @@ module _ (bytes : List ℕ) (f : Frame) (b : Block) (d : Displacement) (half : B
 fewer : (m n : ℕ) (sums weights : List ℕ) → m ≤ n → Slack n sums weights → Slack m sums weights
 fewer m n sums weights h s = record { of-sums = λ k. let r = s .of-sums k in omega arith; of-weights = λ k. let r = s .of-weights k in omega arith }
 
--- after the first plane, and after the second
-module _ (a : tie.After-blend-plane) where
-  lent-1 : Lent (packedSize (a .before .before .before .before .before .before .before .args .f .width) (a .before .before .before .before .before .before .before .args .f .height)) (a .before .before .before .before .before .before .before .args .out .now) (a .blend-plane .last .1 .1 .1 .1 .1 .1 .1 .1 .0) (a .blend-plane .last .1 .1 .1 .1 .1 .1 .1 .1 .1 .0)
-  lent-1 =
+-- what a plane adds, by the choice
+module _ (s : tie.Start) (k : ℕ) (old now : List ℕ) where
+  copied-terms : filteredIn (s .args .choice .«half_sample») k (s .args .d) ≡ false → ((i : ℕ) → getD (s .args .bytes .now) i 0 < 256)
+      → Placed (offsetOf k (s .args .f .width) (s .args .f .height)) (sideOf k (s .args .f .width)) (sideOf k (s .args .f .height)) (λ x y. gate (within (blockIn k (s .args .b)) x y) (termBy (s .args .curve .now) (packedPicture (s .args .f .width) (s .args .f .height) (s .args .out .now) k) (displacedBy (displacementIn k (s .args .d)) (pictureOf (s .args .bytes .now) (s .args .f) k)) x y)) old now
+      → Placed (offsetOf k (s .args .f .width) (s .args .f .height)) (sideOf k (s .args .f .width)) (sideOf k (s .args .f .height)) (λ x y. gate (within (blockIn k (s .args .b)) x y) (termBy (s .args .curve .now) (packedPicture (s .args .f .width) (s .args .f .height) (s .args .out .now) k) (sampleIn (s .args .choice .«half_sample») k (s .args .d) (pictureOf (s .args .bytes .now) (s .args .f) k)) x y)) old now
+  copied-terms e byte p =
+      by-copies (s .args .choice) (s .args .bytes .now) (s .args .f) k (s .args .b) (s .args .d) (s .args .curve .now) _ _ _ _ old now termBy (term-goes (s .args .curve .now) _) e byte p
+
+  half-terms : filteredIn (s .args .choice .«half_sample») k (s .args .d) ≡ true
+      → Placed (offsetOf k (s .args .f .width) (s .args .f .height)) (sideOf k (s .args .f .width)) (sideOf k (s .args .f .height)) (λ x y. gate (within (blockIn k (s .args .b)) x y) (termBy (s .args .curve .now) (packedPicture (s .args .f .width) (s .args .f .height) (s .args .out .now) k) (halfSample (s .args .d) (pictureOf (s .args .bytes .now) (s .args .f) k)) x y)) old now
+      → Placed (offsetOf k (s .args .f .width) (s .args .f .height)) (sideOf k (s .args .f .width)) (sideOf k (s .args .f .height)) (λ x y. gate (within (blockIn k (s .args .b)) x y) (termBy (s .args .curve .now) (packedPicture (s .args .f .width) (s .args .f .height) (s .args .out .now) k) (sampleIn (s .args .choice .«half_sample») k (s .args .d) (pictureOf (s .args .bytes .now) (s .args .f) k)) x y)) old now
+  half-terms e p =
+      by-halves (s .args .choice) (s .args .bytes .now) (s .args .f) k (s .args .b) (s .args .d) (s .args .curve .now) _ _ _ _ old now termBy (term-goes (s .args .curve .now) _) e p
+
+  copied-shares : filteredIn (s .args .choice .«half_sample») k (s .args .d) ≡ false → ((i : ℕ) → getD (s .args .bytes .now) i 0 < 256)
+      → Placed (offsetOf k (s .args .f .width) (s .args .f .height)) (sideOf k (s .args .f .width)) (sideOf k (s .args .f .height)) (λ x y. gate (within (blockIn k (s .args .b)) x y) (shareBy (s .args .curve .now) (packedPicture (s .args .f .width) (s .args .f .height) (s .args .out .now) k) (displacedBy (displacementIn k (s .args .d)) (pictureOf (s .args .bytes .now) (s .args .f) k)) x y)) old now
+      → Placed (offsetOf k (s .args .f .width) (s .args .f .height)) (sideOf k (s .args .f .width)) (sideOf k (s .args .f .height)) (λ x y. gate (within (blockIn k (s .args .b)) x y) (shareBy (s .args .curve .now) (packedPicture (s .args .f .width) (s .args .f .height) (s .args .out .now) k) (sampleIn (s .args .choice .«half_sample») k (s .args .d) (pictureOf (s .args .bytes .now) (s .args .f) k)) x y)) old now
+  copied-shares e byte p =
+      by-copies (s .args .choice) (s .args .bytes .now) (s .args .f) k (s .args .b) (s .args .d) (s .args .curve .now) _ _ _ _ old now shareBy (share-goes (s .args .curve .now) _) e byte p
+
+  half-shares : filteredIn (s .args .choice .«half_sample») k (s .args .d) ≡ true
+      → Placed (offsetOf k (s .args .f .width) (s .args .f .height)) (sideOf k (s .args .f .width)) (sideOf k (s .args .f .height)) (λ x y. gate (within (blockIn k (s .args .b)) x y) (shareBy (s .args .curve .now) (packedPicture (s .args .f .width) (s .args .f .height) (s .args .out .now) k) (halfSample (s .args .d) (pictureOf (s .args .bytes .now) (s .args .f) k)) x y)) old now
+      → Placed (offsetOf k (s .args .f .width) (s .args .f .height)) (sideOf k (s .args .f .width)) (sideOf k (s .args .f .height)) (λ x y. gate (within (blockIn k (s .args .b)) x y) (shareBy (s .args .curve .now) (packedPicture (s .args .f .width) (s .args .f .height) (s .args .out .now) k) (sampleIn (s .args .choice .«half_sample») k (s .args .d) (pictureOf (s .args .bytes .now) (s .args .f) k)) x y)) old now
+  half-shares e p =
+      by-halves (s .args .choice) (s .args .bytes .now) (s .args .f) k (s .args .b) (s .args .d) (s .args .curve .now) _ _ _ _ old now shareBy (share-goes (s .args .curve .now) _) e p
+
+-- after Y
+module _ (a : tie.After-blend-in) where
+  lent-y : Lent (packedSize (a .before .before .before .before .before .before .before .args .f .width) (a .before .before .before .before .before .before .before .args .f .height)) (a .before .before .before .before .before .before .before .args .out .now) (a .blend-in .last .1 .1 .1 .1 .1 .1 .1 .0) (a .blend-in .last .1 .1 .1 .1 .1 .1 .1 .1 .0)
+  lent-y =
       let s = a .before .before .before .before .before .before .before in
-      still-lent (s .args .bytes .now) (s .args .f) (s .args .b) (s .args .d) (s .args .choice .«half_sample») (s .args .curve .now) (s .args .out .now) (s .pre .0) (s .pre .1 .1 .1 .1 .0) (λ i. omega (arith, a .before .before .before .before .before .before .shared-slice-known .given i)) 0 (omega arith) _ _ _ _ (a .blend-plane .ensures .0) (a .blend-plane .ensures .1) (s .pre .1 .1 .1 .0)
+      still-lent (s .args .bytes .now) (s .args .f) (s .args .b) (s .args .d) (s .args .choice .«half_sample») (s .args .curve .now) (s .args .out .now) (s .pre .0) (s .pre .1 .1 .1 .1 .0) (λ i. omega (arith, a .before .before .before .before .before .before .shared-slice-known .given i)) 0 (omega arith) _ _ _ _ (copied-terms s 0 _ _ (luma-copied _ _) (λ i. omega (arith, a .before .before .before .before .before .before .shared-slice-known .given i)) (a .blend-in .ensures .0)) (copied-shares s 0 _ _ (luma-copied _ _) (λ i. omega (arith, a .before .before .before .before .before .before .shared-slice-known .given i)) (a .blend-in .ensures .1)) (s .pre .1 .1 .1 .0)
 
-  slack-1 : Slack 3 (a .blend-plane .last .1 .1 .1 .1 .1 .1 .1 .1 .0) (a .blend-plane .last .1 .1 .1 .1 .1 .1 .1 .1 .1 .0)
-  slack-1 =
+  slack-y : Slack 3 (a .blend-in .last .1 .1 .1 .1 .1 .1 .1 .0) (a .blend-in .last .1 .1 .1 .1 .1 .1 .1 .1 .0)
+  slack-y =
       let s = a .before .before .before .before .before .before .before in
-      less (s .args .bytes .now) (s .args .f) (s .args .b) (s .args .d) (s .args .choice .«half_sample») (s .args .curve .now) (s .args .out .now) (s .pre .0) (s .pre .1 .1 .1 .1 .0) (λ i. omega (arith, a .before .before .before .before .before .before .shared-slice-known .given i)) 0 (omega arith) _ _ _ _ (a .blend-plane .ensures .0) (a .blend-plane .ensures .1) 3 (s .pre .1 .1 .1 .1 .1)
+      less (s .args .bytes .now) (s .args .f) (s .args .b) (s .args .d) (s .args .choice .«half_sample») (s .args .curve .now) (s .args .out .now) (s .pre .0) (s .pre .1 .1 .1 .1 .0) (λ i. omega (arith, a .before .before .before .before .before .before .shared-slice-known .given i)) 0 (omega arith) _ _ _ _ (copied-terms s 0 _ _ (luma-copied _ _) (λ i. omega (arith, a .before .before .before .before .before .before .shared-slice-known .given i)) (a .blend-in .ensures .0)) (copied-shares s 0 _ _ (luma-copied _ _) (λ i. omega (arith, a .before .before .before .before .before .before .shared-slice-known .given i)) (a .blend-in .ensures .1)) 3 (s .pre .1 .1 .1 .1 .1)
 
-module _ (a : tie.After-blend-plane2) where
-  lent-2 : Lent (packedSize (a .before .before .before .before .before .before .before .before .before .before .before .before .before .before .args .f .width) (a .before .before .before .before .before .before .before .before .before .before .before .before .before .before .args .f .height)) (a .before .before .before .before .before .before .before .before .before .before .before .before .before .before .args .out .now) (a .blend-plane2 .last .1 .1 .1 .1 .1 .1 .1 .1 .0) (a .blend-plane2 .last .1 .1 .1 .1 .1 .1 .1 .1 .1 .0)
-  lent-2 =
-      let s = a .before .before .before .before .before .before .before .before .before .before .before .before .before .before in
-      still-lent (s .args .bytes .now) (s .args .f) (s .args .b) (s .args .d) (s .args .choice .«half_sample») (s .args .curve .now) (s .args .out .now) (s .pre .0) (s .pre .1 .1 .1 .1 .0) (λ i. omega (arith, a .before .before .before .before .before .before .before .before .before .before .before .before .before .shared-slice-known .given i)) 1 (omega arith) _ _ _ _ (a .blend-plane2 .ensures .0) (a .blend-plane2 .ensures .1) (lent-1 (a .before .before .before .before .before .before .before))
+-- after U, filtered
+module _ (a : tie.After-blend-half) where
+  lent-half : Lent (packedSize (a .before .before .before .before .before .before .before .before .before .before .before .before .before .before .before .before .args .f .width) (a .before .before .before .before .before .before .before .before .before .before .before .before .before .before .before .before .args .f .height)) (a .before .before .before .before .before .before .before .before .before .before .before .before .before .before .before .before .args .out .now) (a .blend-half .last .1 .1 .1 .1 .1 .1 .1 .0) (a .blend-half .last .1 .1 .1 .1 .1 .1 .1 .1 .0)
+  lent-half =
+      let s = a .before .before .before .before .before .before .before .before .before .before .before .before .before .before .before .before in
+      still-lent (s .args .bytes .now) (s .args .f) (s .args .b) (s .args .d) (s .args .choice .«half_sample») (s .args .curve .now) (s .args .out .now) (s .pre .0) (s .pre .1 .1 .1 .1 .0) (λ i. omega (arith, a .before .before .before .before .before .before .before .before .before .before .before .before .before .before .before .shared-slice-known .given i)) 1 (omega arith) _ _ _ _ (half-terms s 1 _ _ (sym (a .before .before .before .before .filters .ensures) ∙ a .before .before .before .if1 .taken) (a .blend-half .ensures .0)) (half-shares s 1 _ _ (sym (a .before .before .before .before .filters .ensures) ∙ a .before .before .before .if1 .taken) (a .blend-half .ensures .1)) (lent-y (a .before .before .before .before .before .before .before .before .before))
 
-  slack-2 : Slack 2 (a .blend-plane2 .last .1 .1 .1 .1 .1 .1 .1 .1 .0) (a .blend-plane2 .last .1 .1 .1 .1 .1 .1 .1 .1 .1 .0)
-  slack-2 =
-      let s = a .before .before .before .before .before .before .before .before .before .before .before .before .before .before in
-      less (s .args .bytes .now) (s .args .f) (s .args .b) (s .args .d) (s .args .choice .«half_sample») (s .args .curve .now) (s .args .out .now) (s .pre .0) (s .pre .1 .1 .1 .1 .0) (λ i. omega (arith, a .before .before .before .before .before .before .before .before .before .before .before .before .before .shared-slice-known .given i)) 1 (omega arith) _ _ _ _ (a .blend-plane2 .ensures .0) (a .blend-plane2 .ensures .1) 2 (slack-1 (a .before .before .before .before .before .before .before))
+  slack-half : Slack 2 (a .blend-half .last .1 .1 .1 .1 .1 .1 .1 .0) (a .blend-half .last .1 .1 .1 .1 .1 .1 .1 .1 .0)
+  slack-half =
+      let s = a .before .before .before .before .before .before .before .before .before .before .before .before .before .before .before .before in
+      less (s .args .bytes .now) (s .args .f) (s .args .b) (s .args .d) (s .args .choice .«half_sample») (s .args .curve .now) (s .args .out .now) (s .pre .0) (s .pre .1 .1 .1 .1 .0) (λ i. omega (arith, a .before .before .before .before .before .before .before .before .before .before .before .before .before .before .before .shared-slice-known .given i)) 1 (omega arith) _ _ _ _ (half-terms s 1 _ _ (sym (a .before .before .before .before .filters .ensures) ∙ a .before .before .before .if1 .taken) (a .blend-half .ensures .0)) (half-shares s 1 _ _ (sym (a .before .before .before .before .filters .ensures) ∙ a .before .before .before .if1 .taken) (a .blend-half .ensures .1)) 2 (slack-y (a .before .before .before .before .before .before .before .before .before))
 
-blend-plane-requires : tie.Need-blend-plane-requires
-blend-plane-requires c κs =
+-- after U, copied
+module _ (a : tie.After-blend-in2) where
+  lent-copied : Lent (packedSize (a .before .before .before .before .before .before .before .before .before .before .before .before .before .before .before .before .args .f .width) (a .before .before .before .before .before .before .before .before .before .before .before .before .before .before .before .before .args .f .height)) (a .before .before .before .before .before .before .before .before .before .before .before .before .before .before .before .before .args .out .now) (a .blend-in2 .last .1 .1 .1 .1 .1 .1 .1 .0) (a .blend-in2 .last .1 .1 .1 .1 .1 .1 .1 .1 .0)
+  lent-copied =
+      let s = a .before .before .before .before .before .before .before .before .before .before .before .before .before .before .before .before in
+      still-lent (s .args .bytes .now) (s .args .f) (s .args .b) (s .args .d) (s .args .choice .«half_sample») (s .args .curve .now) (s .args .out .now) (s .pre .0) (s .pre .1 .1 .1 .1 .0) (λ i. omega (arith, a .before .before .before .before .before .before .before .before .before .before .before .before .before .before .before .shared-slice-known .given i)) 1 (omega arith) _ _ _ _ (copied-terms s 1 _ _ (sym (a .before .before .before .before .filters .ensures) ∙ a .before .before .before .if1 .left) (λ i. omega (arith, a .before .before .before .before .before .before .before .before .before .before .before .before .before .before .before .shared-slice-known .given i)) (a .blend-in2 .ensures .0)) (copied-shares s 1 _ _ (sym (a .before .before .before .before .filters .ensures) ∙ a .before .before .before .if1 .left) (λ i. omega (arith, a .before .before .before .before .before .before .before .before .before .before .before .before .before .before .before .shared-slice-known .given i)) (a .blend-in2 .ensures .1)) (lent-y (a .before .before .before .before .before .before .before .before .before))
+
+  slack-copied : Slack 2 (a .blend-in2 .last .1 .1 .1 .1 .1 .1 .1 .0) (a .blend-in2 .last .1 .1 .1 .1 .1 .1 .1 .1 .0)
+  slack-copied =
+      let s = a .before .before .before .before .before .before .before .before .before .before .before .before .before .before .before .before in
+      less (s .args .bytes .now) (s .args .f) (s .args .b) (s .args .d) (s .args .choice .«half_sample») (s .args .curve .now) (s .args .out .now) (s .pre .0) (s .pre .1 .1 .1 .1 .0) (λ i. omega (arith, a .before .before .before .before .before .before .before .before .before .before .before .before .before .before .before .shared-slice-known .given i)) 1 (omega arith) _ _ _ _ (copied-terms s 1 _ _ (sym (a .before .before .before .before .filters .ensures) ∙ a .before .before .before .if1 .left) (λ i. omega (arith, a .before .before .before .before .before .before .before .before .before .before .before .before .before .before .before .shared-slice-known .given i)) (a .blend-in2 .ensures .0)) (copied-shares s 1 _ _ (sym (a .before .before .before .before .filters .ensures) ∙ a .before .before .before .if1 .left) (λ i. omega (arith, a .before .before .before .before .before .before .before .before .before .before .before .before .before .before .before .shared-slice-known .given i)) (a .blend-in2 .ensures .1)) 2 (slack-y (a .before .before .before .before .before .before .before .before .before))
+
+blend-in-requires : tie.Need-blend-in-requires
+blend-in-requires c κs =
     let s = c .before .before .before .before .before .before in
     ((omega arith, s .pre .0), (s .pre .1 .0, (s .pre .1 .1 .0, (s .pre .1 .1 .1 .0, (s .pre .1 .1 .1 .1 .0, fewer 2 4 _ _ (omega arith) (s .pre .1 .1 .1 .1 .1))))))
 
-blend-plane-requires-2 : tie.Need-blend-plane-requires-2
-blend-plane-requires-2 c κs =
-    let s = c .before .before .before .before .before .before .before .before .before .before .before .before .before in
-    let a = c .before .before .before .before .before .before in
-    ((omega arith, s .pre .0), (s .pre .1 .0, (s .pre .1 .1 .0, (lent-1 a, (s .pre .1 .1 .1 .1 .0, fewer 2 3 _ _ (omega arith) (slack-1 a))))))
+filters-requires : tie.Need-filters-requires
+filters-requires c κs = c .before .before .before .before .before .before .before .before .before .before .before .pre .1 .1 .0
 
-blend-plane-requires-3 : tie.Need-blend-plane-requires-3
-blend-plane-requires-3 c κs =
-    let s = c .before .before .before .before .before .before .before .before .before .before .before .before .before .before .before .before .before .before .before .before in
-    let a = c .before .before .before .before .before .before in
-    ((omega arith, s .pre .0), (s .pre .1 .0, (s .pre .1 .1 .0, (lent-2 a, (s .pre .1 .1 .1 .1 .0, slack-2 a)))))
+blend-half-requires : tie.Need-blend-half-requires
+blend-half-requires c κs =
+    let s = c .before .before .before .before .before .before .before .before .before .before .before .before .before .before .before in
+    ((omega arith, omega arith, s .pre .0), (s .pre .1 .0, (s .pre .1 .1 .0, (lent-y (c .before .before .before .before .before .before .before .before), (s .pre .1 .1 .1 .1 .0, fewer 2 3 _ _ (omega arith) (slack-y (c .before .before .before .before .before .before .before .before)))))))
+
+blend-half-requires-2 : tie.Need-blend-half-requires-2
+blend-half-requires-2 c κs =
+    let s = c .before .before .before .before .before .before .before .before .before .before .before .before .before .before .before .before .before .before .before .before .before .before in
+    ((omega arith, omega arith, s .pre .0), (s .pre .1 .0, (s .pre .1 .1 .0, (lent-half (c .before .before .before .before .before .before), (s .pre .1 .1 .1 .1 .0, slack-half (c .before .before .before .before .before .before))))))
+
+blend-in-requires-2 : tie.Need-blend-in-requires-2
+blend-in-requires-2 c κs =
+    let s = c .before .before .before .before .before .before .before .before .before .before .before .before .before .before .before in
+    ((omega arith, s .pre .0), (s .pre .1 .0, (s .pre .1 .1 .0, (lent-y (c .before .before .before .before .before .before .before .before), (s .pre .1 .1 .1 .1 .0, fewer 2 3 _ _ (omega arith) (slack-y (c .before .before .before .before .before .before .before .before)))))))
+
+blend-in-requires-3 : tie.Need-blend-in-requires-3
+blend-in-requires-3 c κs =
+    let s = c .before .before .before .before .before .before .before .before .before .before .before .before .before .before .before .before .before .before .before .before .before .before in
+    ((omega arith, s .pre .0), (s .pre .1 .0, (s .pre .1 .1 .0, (lent-copied (c .before .before .before .before .before .before), (s .pre .1 .1 .1 .1 .0, slack-copied (c .before .before .before .before .before .before))))))
 
 same-length : tie.Need-same-length
 same-length c = search needs
@@ -93,23 +144,53 @@ same-length-2 c = search needs
 
 returns : tie.Need-returns
 returns c =
-    let s = c .before .before .before .before .before .before .before .before .before .before .before .before .before .before .before .before .before .before .before .before .before .before .before .before .before in
-    let a1 = c .before .before .before .before .before .before .before .before .before .before .before .before .before .before .before .before .before .before in
-    let a2 = c .before .before .before .before .before .before .before .before .before .before .before in
-    let a3 = c .before .before .before .before in
+    let s = c .before .before .before .before .before .before .before .before .before .before .before .before .before .before .before .before .before .before .before .before .before .before .before .before .before .before .before in
     let w = s .args .f .width in
-    let h = s .args .f .height in (
-      spread-three w h _ (a1 .blend-plane .ensures .0) (a2 .blend-plane2 .ensures .0) (a3 .blend-plane3 .ensures .0),
-      spread-three w h _ (a1 .blend-plane .ensures .1) (a2 .blend-plane2 .ensures .1) (a3 .blend-plane3 .ensures .1),
+    let h = s .args .f .height in
+    let byte : (i : ℕ) → getD (s .args .bytes .now) i 0 < 256 = λ i. omega (arith, c .before .before .before .before .before .before .before .before .before .before .before .before .before .before .before .before .before .before .before .before .before .before .before .before .before .before .shared-slice-known .given i) in
+    let y = c .before .before .before .before .before .before .before .before .before .before .before .before .before .before .before .before .before .before .before .before .blend-in .ensures in
+    let u = c .before .before .before .before .before .before .before .before .before .before .before .blend-half .ensures in
+    let v = c .before .before .before .before .blend-half2 .ensures in
+    let first = sym (c .before .before .before .before .before .before .before .before .before .before .before .before .before .before .before .filters .ensures) ∙ c .before .before .before .before .before .before .before .before .before .before .before .before .before .before .if1 .taken in
+    let second = sym (chroma-alike (s .args .choice .«half_sample») (s .args .d)) ∙ first in (
+      spread-three w h _ (copied-terms s 0 _ _ (luma-copied _ _) byte (y .0)) (half-terms s 1 _ _ first (u .0)) (half-terms s 2 _ _ second (v .0)),
+      spread-three w h _ (copied-shares s 0 _ _ (luma-copied _ _) byte (y .1)) (half-shares s 1 _ _ first (u .1)) (half-shares s 2 _ _ second (v .1)),
+    )
+
+same-length-3 : tie.Need-same-length-3
+same-length-3 c = search needs
+
+same-length-4 : tie.Need-same-length-4
+same-length-4 c = search needs
+
+returns-2 : tie.Need-returns-2
+returns-2 c =
+    let s = c .before .before .before .before .before .before .before .before .before .before .before .before .before .before .before .before .before .before .before .before .before .before .before .before .before .before .before in
+    let w = s .args .f .width in
+    let h = s .args .f .height in
+    let byte : (i : ℕ) → getD (s .args .bytes .now) i 0 < 256 = λ i. omega (arith, c .before .before .before .before .before .before .before .before .before .before .before .before .before .before .before .before .before .before .before .before .before .before .before .before .before .before .shared-slice-known .given i) in
+    let y = c .before .before .before .before .before .before .before .before .before .before .before .before .before .before .before .before .before .before .before .before .blend-in .ensures in
+    let u = c .before .before .before .before .before .before .before .before .before .before .before .blend-in2 .ensures in
+    let v = c .before .before .before .before .blend-in3 .ensures in
+    let first = sym (c .before .before .before .before .before .before .before .before .before .before .before .before .before .before .before .filters .ensures) ∙ c .before .before .before .before .before .before .before .before .before .before .before .before .before .before .if1 .left in
+    let second = sym (chroma-alike (s .args .choice .«half_sample») (s .args .d)) ∙ first in (
+      spread-three w h _ (copied-terms s 0 _ _ (luma-copied _ _) byte (y .0)) (copied-terms s 1 _ _ first byte (u .0)) (copied-terms s 2 _ _ second byte (v .0)),
+      spread-three w h _ (copied-shares s 0 _ _ (luma-copied _ _) byte (y .1)) (copied-shares s 1 _ _ first byte (u .1)) (copied-shares s 2 _ _ second byte (v .1)),
     )
 
 pub blend-planes-spec : {M : Type 1} → statement M
 blend-planes-spec =
     tie.close
     (tie.spec
-    blend-plane-requires
-    blend-plane-requires-2
-    blend-plane-requires-3
+    blend-in-requires
+    filters-requires
+    blend-half-requires
+    blend-half-requires-2
+    blend-in-requires-2
+    blend-in-requires-3
     same-length
     same-length-2
-    returns)
+    returns
+    same-length-3
+    same-length-4
+    returns-2)

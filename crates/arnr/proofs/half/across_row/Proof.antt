@@ -23,7 +23,7 @@ abbrev μ-loop : tie.MeasureT-loop
 μ-loop out₀ halo s r k₀ out k = 8 - k
 
 loop-holds : tie.Need-loop-holds Inv-loop μ-loop
-loop-holds c = (omega arith, c .pre .2, fill-at (omega arith) (c .pre .3))
+loop-holds c = (omega arith, c .pre .3, fill-at (omega arith) (c .pre .4))
 
 mul-six : tie.Need-mul-six Inv-loop μ-loop
 mul-six c = search needs

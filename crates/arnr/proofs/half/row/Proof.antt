@@ -1,7 +1,7 @@
 -- `arnr::half::row` meets its contract. Assumes nothing.
 use native.Mathlib.Omega.{arith}
 use mathlib.Core.Path.{_≡_}
-use Prim.Native.Nat.{_≤_, _*_}
+use Prim.Native.Nat.{_≤_, _*_, _%_}
 use lib.IntN.{ℤ, pos, natAbs, _-ℤ_, _*ℤ_}
 use lib.Signed.{shrZ}
 use mir.Syntax.{w32}
@@ -44,6 +44,9 @@ module _ (v : ℤ) (h : (above v ≤ 15) × (below v ≤ 15)) where
   four-most : natAbs (rest *ℤ pos 4) ≤ 4
   four-most = omega (arith, four-is, rest-most)
 
+  four-by : natAbs (rest *ℤ pos 4) % 4 ≡ 0
+  four-by = omega (arith, four-is)
+
 mul-result : tie.Need-mul-result
 mul-result c =
     let v = c .args .v in
@@ -74,7 +77,7 @@ returns c =
     let v = c .args .v in
     let f = c .fits .v in
     simp (toZ-ofZ f, floor-shift v 2, toZ-ofZ (half-fits v (c .pre)), toZ-ofZ (twice-fits v (c .pre)), toZ-ofZ (rest-fits v (c .pre)), toZ-ofZ (four-fits v (c .pre)))
-    (four-is v (c .pre), four-most v (c .pre))
+    (four-is v (c .pre), four-most v (c .pre), four-by v (c .pre))
 
 pub row-spec : {M : Type 1} → statement M
 row-spec = tie.close (tie.spec mul-result sub-result mul-result-2 cast-result returns)
