@@ -289,6 +289,24 @@ vp8model_build vp8model_build_arnr_altref(const uint8_t *bytes, size_t bytes_len
                                           uint32_t *sums, size_t sums_len, uint32_t *weights,
                                           size_t weights_len);
 
+/* The builder with half samples in U and V, as RFC 6386 has them for a whole-pixel luma vector, where the two
+ * above halve an odd component of the displacement toward zero. Parameters, refusals, cropping and caps are
+ * those of vp8model_build_from_numbers, and so are Y in all three slices and the accepted blocks. The
+ * displaced sample in U and V is another. Each component d of the block's luma displacement, by itself, gives
+ * a whole offset, half of d rounded down, and a selector: 0 where d is even, 4 where it is odd. So -1 gives
+ * -1 and 4, and 1 gives 0 and 4. With both even the sample at the offset is copied. Else it goes through two
+ * passes, across by the selector of the column's component, then down by that of the row's, each as
+ * vp8model_interp filters. What they read is the frame's own U or V, with the edge samples of that plane
+ * repeated. Difference, share, sum and denoised sample are made of this sample. The Rust original has no such
+ * call.
+ *
+ * There is none over records: an array of vp8model_frame may be passed as its numbers, eight for each, by
+ * (const uint32_t *)frames and VP8MODEL_NUMBERS_PER_FRAME times their count. */
+vp8model_build vp8model_build_half_sample(const uint8_t *bytes, size_t bytes_len, const uint32_t *numbers,
+                                          size_t numbers_len, size_t centre, uint8_t strength,
+                                          uint8_t *output, size_t output_len, uint32_t *sums,
+                                          size_t sums_len, uint32_t *weights, size_t weights_len);
+
 #ifdef __cplusplus
 }
 #endif
