@@ -2,8 +2,9 @@
  * Calls every function of vp8model.h, accepted and refused, and holds the answers against values worked out by
  * hand from document 01, those of the SAD up to a ceiling from request 4, those of versions and bilinear rows
  * from request 10, those of whole pictures from requests 1 and 14 and against the single calls, those of caps from
- * request 7. Every slice and array is lent from between guard entries. On a refusal, and for const arguments
- * always, the lent entries are as they were.
+ * request 7, those of half samples from request 6 and against a builder that goes sample by sample. Every slice and
+ * array is lent from between guard entries. On a refusal, and for const arguments always, the lent entries are as
+ * they were.
  *
  * Prints one line, `calls: N checks, M failed`, after a line for each check that fails. C11 and C++.
  */
@@ -85,20 +86,25 @@ static void keep_words(words *w)
     memcpy(w->kept, at_words(w), w->length * sizeof w->kept[0]);
 }
 
+/* All are the mark: the first is, and each is as the next. */
+static int marked_bytes(const uint8_t *b, size_t count)
+{
+    return b[0] == BYTE_MARK && memcmp(b, b + 1, count - 1) == 0;
+}
+
+static int marked_words(const uint32_t *w, size_t count)
+{
+    return w[0] == WORD_MARK && memcmp(w, w + 1, (count - 1) * sizeof w[0]) == 0;
+}
+
 static int guarded_bytes(const bytes *b)
 {
-    for (size_t i = 0; i < GUARD + MOST + GUARD; i++)
-        if ((i < GUARD || GUARD + b->length <= i) && b->room[i] != BYTE_MARK)
-            return 0;
-    return 1;
+    return marked_bytes(b->room, GUARD) && marked_bytes(b->room + GUARD + b->length, MOST - b->length + GUARD);
 }
 
 static int guarded_words(const words *w)
 {
-    for (size_t i = 0; i < GUARD + MOST + GUARD; i++)
-        if ((i < GUARD || GUARD + w->length <= i) && w->room[i] != WORD_MARK)
-            return 0;
-    return 1;
+    return marked_words(w->room, GUARD) && marked_words(w->room + GUARD + w->length, MOST - w->length + GUARD);
 }
 
 static int same_bytes(const bytes *b)
@@ -137,9 +143,15 @@ static words numbers, sums, weights, curve;
 static vp8model_frame records[1 + FRAMES_MOST + 1];
 static vp8model_frame records_kept[1 + FRAMES_MOST + 1];
 
-/* The builders, alike: which one is called, and with how many numbers. */
+/* The builders, alike: which one is called, and with how many numbers. The last gets records as their numbers. */
 
-enum builder { CHECKS_ONLY, FROM_NUMBERS, FROM_RECORDS };
+enum builder { CHECKS_ONLY, FROM_NUMBERS, FROM_RECORDS, HALF_SAMPLE, HALF_OF_RECORDS };
+
+#define LAST_BUILDER HALF_OF_RECORDS
+
+/* The builders over numbers have the same parameters. */
+typedef vp8model_build over_numbers(const uint8_t *, size_t, const uint32_t *, size_t, size_t, uint8_t, uint8_t *,
+                                    size_t, uint32_t *, size_t, uint32_t *, size_t);
 
 static const vp8model_frame guard_record = {WORD_MARK, WORD_MARK, WORD_MARK, WORD_MARK,
                                             WORD_MARK, WORD_MARK, WORD_MARK, WORD_MARK};
@@ -159,28 +171,38 @@ static size_t lend_records(void)
     return count;
 }
 
+static vp8model_build build_by(over_numbers *call, const uint32_t *of, size_t length, size_t centre,
+                               uint8_t strength)
+{
+    return call(at_bytes(&picture), picture.length, of, length, centre, strength, at_bytes(&output),
+                output.length, at_words(&sums), sums.length, at_words(&weights), weights.length);
+}
+
 static vp8model_build build(enum builder which, size_t centre, uint8_t strength)
 {
+    const uint32_t *of = at_words(&numbers);
     if (which == CHECKS_ONLY)
-        return vp8model_check_build(at_bytes(&picture), picture.length, at_words(&numbers),
-                                    numbers.length, centre, output.length, sums.length,
-                                    weights.length);
+        return vp8model_check_build(at_bytes(&picture), picture.length, of, numbers.length, centre,
+                                    output.length, sums.length, weights.length);
     if (which == FROM_NUMBERS)
-        return vp8model_build_from_numbers(at_bytes(&picture), picture.length, at_words(&numbers),
-                                           numbers.length, centre, strength, at_bytes(&output),
-                                           output.length, at_words(&sums), sums.length,
-                                           at_words(&weights), weights.length);
-    return vp8model_build_arnr_altref(at_bytes(&picture), picture.length, records + 1,
-                                      lend_records(), centre, strength, at_bytes(&output),
-                                      output.length, at_words(&sums), sums.length,
-                                      at_words(&weights), weights.length);
+        return build_by(vp8model_build_from_numbers, of, numbers.length, centre, strength);
+    if (which == HALF_SAMPLE)
+        return build_by(vp8model_build_half_sample, of, numbers.length, centre, strength);
+    size_t count = lend_records();
+    if (which == HALF_OF_RECORDS)
+        return build_by(vp8model_build_half_sample, (const uint32_t *)(records + 1),
+                        VP8MODEL_NUMBERS_PER_FRAME * count, centre, strength);
+    return vp8model_build_arnr_altref(at_bytes(&picture), picture.length, records + 1, count, centre,
+                                      strength, at_bytes(&output), output.length, at_words(&sums),
+                                      sums.length, at_words(&weights), weights.length);
 }
 
 /* What is only read is as it was. */
 static int inputs_kept(enum builder which)
 {
     return same_bytes(&picture) && same_words(&numbers)
-           && (which != FROM_RECORDS || memcmp(records, records_kept, sizeof records) == 0);
+           && ((which != FROM_RECORDS && which != HALF_OF_RECORDS)
+               || memcmp(records, records_kept, sizeof records) == 0);
 }
 
 /* And so are all three lent slices. */
@@ -217,7 +239,7 @@ static void empty_window(void)
     lend_bytes(&output, 0, 0);
     lend_words(&sums, 0, 0);
     lend_words(&weights, 0, 0);
-    for (int which = CHECKS_ONLY; which <= FROM_RECORDS; which++) {
+    for (int which = CHECKS_ONLY; which <= LAST_BUILDER; which++) {
         REFUSES((enum builder)which, 0, 1, 0, 0, 0, 0, 0);
         REFUSES((enum builder)which, SIZE_MAX, 1, 0, 0, 0, 0, 0);
     }
@@ -1757,7 +1779,7 @@ static void caps_of_several(enum builder which)
 }
 
 /* One to seven numbers behind the last frame are not read: a frame that began with them would be refused. */
-static void leftover_numbers(void)
+static void leftover_numbers(enum builder which)
 {
     for (size_t more = 1; more < VP8MODEL_NUMBERS_PER_FRAME; more++) {
         lend_window(2, 104);
@@ -1765,32 +1787,32 @@ static void leftover_numbers(void)
         lend_more_numbers(more);
         CHECK(is_build(build(CHECKS_ONLY, 0, 1), 0, 16, 16, 0, 0, 0, 0));
         CHECK(all_kept(CHECKS_ONLY));
-        REFUSES(FROM_NUMBERS, 2, 1, 0, 0, 0, 0, 0);
-        CHECK(is_build(build(FROM_NUMBERS, 0, 1), 0, 16, 16, 1, 0, 0, 0));
-        CHECK(is_filled(101, 2328, 23) && inputs_kept(FROM_NUMBERS));
+        REFUSES(which, 2, 1, 0, 0, 0, 0, 0);
+        CHECK(is_build(build(which, 0, 1), 0, 16, 16, 1, 0, 0, 0));
+        CHECK(is_filled(101, 2328, 23) && inputs_kept(which));
         lend_window(0, 104);
         lend_more_numbers(more);
         REFUSES(CHECKS_ONLY, 0, 1, 0, 0, 0, 0, 0);
-        REFUSES(FROM_NUMBERS, 0, 1, 0, 0, 0, 0, 0);
+        REFUSES(which, 0, 1, 0, 0, 0, 0, 0);
         /* 1025 * 8 - 1 numbers are 1024 frames */
         lend_window(1024, 104);
         lend_more_numbers(more);
         CHECK(is_build(build(CHECKS_ONLY, 1023, 1), 0, 16, 16, 0, 0, 0, 0));
-        REFUSES(FROM_NUMBERS, 1024, 1, 0, 0, 0, 0, 0);
+        REFUSES(which, 1024, 1, 0, 0, 0, 0, 0);
         lend_window(1025, 104);
         lend_more_numbers(more);
         REFUSES(CHECKS_ONLY, 0, 2, 0, 0, 0, 0, 0);
-        REFUSES(FROM_NUMBERS, 0, 2, 0, 0, 0, 0, 0);
+        REFUSES(which, 0, 2, 0, 0, 0, 0, 0);
     }
 }
 
 static void caps(void)
 {
-    for (int which = CHECKS_ONLY; which <= FROM_RECORDS; which++) {
+    for (int which = CHECKS_ONLY; which <= LAST_BUILDER; which++) {
         refused_caps((enum builder)which);
         caps_in_order((enum builder)which);
     }
-    for (int which = FROM_NUMBERS; which <= FROM_RECORDS; which++) {
+    for (int which = FROM_NUMBERS; which <= LAST_BUILDER; which++) {
         capped_builds((enum builder)which);
         caps_of_several((enum builder)which);
     }
@@ -1815,6 +1837,507 @@ static void legal_checks(void)
     keep_words(&numbers);
     CHECK(is_build(build(CHECKS_ONLY, 0, 0), 0, 16383, 1, 0, 0, 0, 0));
     CHECK(all_kept(CHECKS_ONLY));
+}
+
+/* Any of 1, 2, 3, 4, 29, 5, 6 and 7 at once, a bit of `wrong` for each: the first is given, with its values. */
+static void builds_refused_in_order(enum builder which)
+{
+    static const uint32_t order[8] = {1, 2, 3, 4, 29, 5, 6, 7};
+    for (unsigned wrong = 1; wrong < 256; wrong++) {
+        size_t count = (wrong & 2) != 0 ? 1025 : 3;
+        uint32_t values[8][5] = {{0}, {0}, {0, 16}, {16, 16, 9, 16}, {0, 0, 0, 0, 1}, {0, 0, 0, 0, 1}, {0}, {0}};
+        size_t first = 0;
+        lend_window(count, 104);
+        if ((wrong & 4) != 0)
+            put_frame(0, 0, 16, 0);
+        if ((wrong & 8) != 0)
+            put_frame(2, 9, 16, P);
+        if ((wrong & 32) != 0)
+            put_frame(1, 16, 16, P + 1);
+        if ((wrong & 16) != 0)
+            put_cap(1, 17);
+        if ((wrong & 64) != 0)
+            lend_bytes(&output, P - 1, 7);
+        if ((wrong & 128) != 0)
+            lend_words(wrong % 3 == 0 ? &sums : &weights, P - 1, 7);
+        while ((wrong >> first & 1) == 0)
+            first++;
+        const uint32_t *v = values[first];
+        REFUSES(which, (wrong & 1) != 0 ? count : 0, order[first], v[0], v[1], v[2], v[3], v[4]);
+    }
+}
+
+/* Half samples. A builder by the definitions, sample by sample: the judge of both rules for U and V. */
+
+/* A plane of a frame: its first byte, its stride and its sides. */
+typedef struct samples {
+    const uint8_t *first;
+    int stride, columns, rows;
+} samples;
+
+static samples plane_of(size_t g, int k)
+{
+    const uint32_t *n = at_words(&numbers) + g * VP8MODEL_NUMBERS_PER_FRAME;
+    int width = (int)n[0], height = (int)n[1];
+    samples p = {at_bytes(&picture) + n[2 + k], (int)n[k == 0 ? 5 : 6], k == 0 ? width : (width + 1) / 2,
+                 k == 0 ? height : (height + 1) / 2};
+    return p;
+}
+
+/* Outside the plane, the nearest edge sample. */
+static int sample_at(samples p, int x, int y)
+{
+    int column = x < 0 ? 0 : x < p.columns ? x : p.columns - 1;
+    int row = y < 0 ? 0 : y < p.rows ? y : p.rows - 1;
+    return p.first[row * p.stride + column];
+}
+
+/* A displacement of a block, and its SAD. */
+typedef struct displacement {
+    int dx, dy;
+    uint32_t sad;
+} displacement;
+
+/* The SAD of the block that begins at (x0, y0). */
+static displacement measured(samples centre, samples other, int x0, int y0, int dx, int dy)
+{
+    displacement d = {dx, dy, 0};
+    for (int y = y0; y < y0 + 16 && y < centre.rows; y++)
+        for (int x = x0; x < x0 + 16 && x < centre.columns; x++) {
+            int difference = sample_at(centre, x, y) - sample_at(other, x + dx, y + dy);
+            d.sad += (uint32_t)(difference < 0 ? -difference : difference);
+        }
+    return d;
+}
+
+static displacement block_search(samples centre, samples other, int x0, int y0)
+{
+    displacement best = measured(centre, other, x0, y0, 0, 0);
+    for (int step = 8; step > 0; step /= 2) {
+        displacement from = best;
+        for (int place = 0; place < 9; place++) {
+            if (place == 4)
+                continue;
+            displacement d = measured(centre, other, x0, y0, from.dx + (place % 3 - 1) * step,
+                                      from.dy + (place / 3 - 1) * step);
+            if (d.sad < best.sad)
+                best = d;
+        }
+    }
+    return best;
+}
+
+/* One pass: row 4 for an odd component, row 0 for an even one. */
+static int passed(int component, const int six[6])
+{
+    static const int taps[2][6] = {{0, 0, 128, 0, 0, 0}, {3, -16, 77, 77, -16, 3}};
+    int sum = 64;
+    for (int k = 0; k < 6; k++)
+        sum += taps[component % 2 != 0][k] * six[k];
+    return sum < 0 ? 0 : sum / 128 < 255 ? sum / 128 : 255;
+}
+
+/* Components are -15 to 15. */
+static int half_down(int component)
+{
+    return (component + 16) / 2 - 8;
+}
+
+static int half_sample(samples p, int x, int y, displacement d)
+{
+    int six[6], down[6];
+    x += half_down(d.dx);
+    y += half_down(d.dy);
+    if (d.dx % 2 == 0 && d.dy % 2 == 0)
+        return sample_at(p, x, y);
+    for (int r = 0; r < 6; r++) {
+        for (int c = 0; c < 6; c++)
+            six[c] = sample_at(p, x - 2 + c, y - 2 + r);
+        down[r] = passed(d.dx, six);
+    }
+    return passed(d.dy, down);
+}
+
+/* The rules for the displaced sample in U and V. */
+enum chroma { WHOLE, HALF };
+
+static int displaced_sample(enum chroma rule, int k, samples p, int x, int y, displacement d)
+{
+    if (k == 0)
+        return sample_at(p, x + d.dx, y + d.dy);
+    return rule == HALF ? half_sample(p, x, y, d) : sample_at(p, x + d.dx / 2, y + d.dy / 2);
+}
+
+/* The window that is lent, and what a search finds in it. */
+#define BLOCKS_MOST 9
+#define COUNT_MOST 4
+
+typedef struct window {
+    int width, height;
+    size_t count, centre;
+    uint8_t strength;
+    displacement found[COUNT_MOST][BLOCKS_MOST];
+} window;
+
+static int block_columns(const window *w)
+{
+    return (w->width + 15) / 16;
+}
+
+static int blocks_of(const window *w)
+{
+    return block_columns(w) * ((w->height + 15) / 16);
+}
+
+static int is_cropped(const window *w)
+{
+    return w->count == 1 || w->strength == 0;
+}
+
+static void search_window(window *w)
+{
+    for (size_t g = 0; g < w->count; g++)
+        for (int b = 0; b < blocks_of(w) && g != w->centre; b++)
+            w->found[g][b] = block_search(plane_of(w->centre, 0), plane_of(g, 0), 16 * (b % block_columns(w)),
+                                          16 * (b / block_columns(w)));
+}
+
+/* The centre's block is none, nor is one whose SAD is 13 times its area or more. */
+static int is_accepted(const window *w, size_t g, int b)
+{
+    int columns = w->width - 16 * (b % block_columns(w)), rows = w->height - 16 * (b / block_columns(w));
+    int area = (columns < 16 ? columns : 16) * (rows < 16 ? rows : 16);
+    return g != w->centre && w->found[g][b].sad < (uint32_t)(13 * area);
+}
+
+/* What the slices hold, and the accepted blocks. */
+#define PACKED_MOST (48 * 48 * 3 / 2)
+
+typedef struct held {
+    uint8_t output[PACKED_MOST + PAST];
+    uint32_t sums[PACKED_MOST + PAST], weights[PACKED_MOST + PAST];
+    uint32_t accepted;
+} held;
+
+/* Where a plane begins in them; where plane 3 would, is P. */
+static size_t packed_start(const window *w, int k)
+{
+    int luma = w->width * w->height, chroma = (w->width + 1) / 2 * ((w->height + 1) / 2);
+    return (size_t)(k == 0 ? 0 : luma + (k - 1) * chroma);
+}
+
+/* The lesser of the cap and the weight of the difference. */
+static uint32_t share_of(const window *w, size_t g, int moved, int centre)
+{
+    uint32_t cap = at_words(&numbers)[g * VP8MODEL_NUMBERS_PER_FRAME + 7];
+    uint32_t scale = 8u << (w->strength < 6 ? w->strength : 6);
+    uint32_t square = (uint32_t)((moved - centre) * (moved - centre));
+    uint32_t weight = 16 * scale / (scale + square);
+    return weight < cap ? weight : cap;
+}
+
+static void expect_sample(enum chroma rule, const window *w, int k, int x, int y, held *h)
+{
+    int unit = k == 0 ? 16 : 8, b = y / unit * block_columns(w) + x / unit;
+    samples centre = plane_of(w->centre, k);
+    int m = sample_at(centre, x, y);
+    size_t i = packed_start(w, k) + (size_t)(y * centre.columns + x);
+    uint32_t sum = 16 * (uint32_t)m, total = 16;
+    for (size_t g = 0; g < w->count; g++)
+        if (is_accepted(w, g, b)) {
+            int moved = displaced_sample(rule, k, plane_of(g, k), x, y, w->found[g][b]);
+            uint32_t share = share_of(w, g, moved, m);
+            sum += share * (uint32_t)moved;
+            total += share;
+        }
+    h->output[i] = (uint8_t)(is_cropped(w) ? (uint32_t)m : (sum + total / 2) / total);
+    h->sums[i] = is_cropped(w) ? 7 : sum;
+    h->weights[i] = is_cropped(w) ? 7 : total;
+}
+
+static void expect_window(enum chroma rule, const window *w, held *h)
+{
+    h->accepted = 0;
+    for (size_t g = 0; g < w->count && !is_cropped(w); g++)
+        for (int b = 0; b < blocks_of(w); b++)
+            h->accepted += (uint32_t)is_accepted(w, g, b);
+    for (int k = 0; k < 3; k++) {
+        samples p = plane_of(w->centre, k);
+        for (int i = 0; i < p.columns * p.rows; i++)
+            expect_sample(rule, w, k, i % p.columns, i / p.columns, h);
+    }
+    for (size_t i = packed_start(w, 3); i < packed_start(w, 3) + PAST; i++) {
+        h->output[i] = 7;
+        h->sums[i] = 7;
+        h->weights[i] = 7;
+    }
+}
+
+/* What a builder gives of the window. */
+static void build_window(enum builder which, const window *w, held *h)
+{
+    size_t length = packed_start(w, 3) + PAST;
+    lend_bytes(&output, length, 7);
+    lend_words(&sums, length, 7);
+    lend_words(&weights, length, 7);
+    vp8model_build b = build(which, w->centre, w->strength);
+    CHECK(is_build(b, 0, (uint32_t)w->width, (uint32_t)w->height, b.accepted, 0, 0, 0));
+    CHECK(inputs_kept(which) && guarded_bytes(&output) && guarded_words(&sums) && guarded_words(&weights));
+    memcpy(h->output, at_bytes(&output), length);
+    memcpy(h->sums, at_words(&sums), length * sizeof h->sums[0]);
+    memcpy(h->weights, at_words(&weights), length * sizeof h->weights[0]);
+    h->accepted = b.accepted;
+}
+
+/* The entries from `from` to `to` of all three slices are the same. */
+static int same_held(const held *a, const held *b, size_t from, size_t to)
+{
+    return memcmp(a->output + from, b->output + from, to - from) == 0
+           && memcmp(a->sums + from, b->sums + from, (to - from) * sizeof a->sums[0]) == 0
+           && memcmp(a->weights + from, b->weights + from, (to - from) * sizeof a->weights[0]) == 0;
+}
+
+/* What was met: accepted blocks by their displacement; windows in which U and V of the two calls have to be the same,
+ * since every component is even or the centre is only cropped; those in which U, and V, are not. */
+static unsigned met[31][31], met_even, met_cropped, met_other_u, met_other_v;
+
+static int all_even(const window *w)
+{
+    for (size_t g = 0; g < w->count; g++)
+        for (int b = 0; b < blocks_of(w); b++)
+            if (w->found[g][b].dx % 2 != 0 || w->found[g][b].dy % 2 != 0)
+                return 0;
+    return 1;
+}
+
+static void meet(const window *w, const held *by_whole, const held *by_half)
+{
+    const size_t u = packed_start(w, 1), v = packed_start(w, 2), end = packed_start(w, 3);
+    for (size_t g = 0; g < w->count && !is_cropped(w); g++)
+        for (int b = 0; b < blocks_of(w); b++)
+            if (is_accepted(w, g, b))
+                met[15 + w->found[g][b].dy][15 + w->found[g][b].dx]++;
+    met_cropped += is_cropped(w) ? 1 : 0;
+    met_even += !is_cropped(w) && all_even(w) ? 1 : 0;
+    met_other_u += same_held(by_whole, by_half, u, v) ? 0 : 1;
+    met_other_v += same_held(by_whole, by_half, v, end) ? 0 : 1;
+}
+
+/* Both calls as the judge has them, and beside one another. */
+static void check_window(window *w)
+{
+    static held expected, by_whole, by_half, of_records;
+    size_t all = packed_start(w, 3) + PAST;
+    search_window(w);
+    build_window(FROM_NUMBERS, w, &by_whole);
+    build_window(HALF_SAMPLE, w, &by_half);
+    build_window(HALF_OF_RECORDS, w, &of_records);
+    expect_window(WHOLE, w, &expected);
+    CHECK(same_held(&expected, &by_whole, 0, all) && expected.accepted == by_whole.accepted);
+    expect_window(HALF, w, &expected);
+    CHECK(same_held(&expected, &by_half, 0, all) && expected.accepted == by_half.accepted);
+    CHECK(same_held(&by_half, &of_records, 0, all) && by_half.accepted == of_records.accepted);
+    CHECK(same_held(&by_whole, &by_half, 0, packed_start(w, 1)) && by_whole.accepted == by_half.accepted);
+    if (is_cropped(w) || all_even(w))
+        CHECK(same_held(&by_whole, &by_half, 0, all));
+    meet(w, &by_whole, &by_half);
+}
+
+/* Numbers below `below`, the same ones in every run. */
+static uint32_t drawn(uint32_t below)
+{
+    static uint32_t state = 6;
+    state = state * 1664525 + 1013904223;
+    return (state >> 8) % below;
+}
+
+/* 0 to 255, or 0 and 255 alone. */
+static uint8_t drawn_sample(int extremes)
+{
+    return (uint8_t)(extremes ? 255 * drawn(2) : drawn(256));
+}
+
+/* Frames of these strides, one behind the other, with every cap 16. */
+static void lend_frames(const window *w, uint32_t luma_stride, uint32_t chroma_stride)
+{
+    uint32_t width = (uint32_t)w->width, height = (uint32_t)w->height;
+    uint32_t luma = (uint32_t)needed(luma_stride, width, height);
+    uint32_t chroma = (uint32_t)needed(chroma_stride, (width + 1) / 2, (height + 1) / 2);
+    lend_bytes(&picture, w->count * (luma + 2 * chroma), 0);
+    lend_words(&numbers, w->count * VP8MODEL_NUMBERS_PER_FRAME, 0);
+    for (uint32_t g = 0; g < w->count; g++) {
+        uint32_t y = g * (luma + 2 * chroma);
+        const uint32_t eight[8] = {width, height, y, y + luma, y + luma + chroma, luma_stride, chroma_stride, 16};
+        memcpy(at_words(&numbers) + g * VP8MODEL_NUMBERS_PER_FRAME, eight, sizeof eight);
+    }
+    keep_words(&numbers);
+}
+
+static void put_sample(size_t g, int k, int x, int y, uint8_t sample)
+{
+    const uint32_t *n = at_words(&numbers) + g * VP8MODEL_NUMBERS_PER_FRAME;
+    at_bytes(&picture)[n[2 + k] + (uint32_t)y * n[k == 0 ? 5 : 6] + (uint32_t)x] = sample;
+}
+
+/* 0 at x = 24 and 64 sixteen samples from there on either side, and so on. */
+static int wave(int x)
+{
+    int along = (x + 40) % 32 - 16;
+    return 64 - 4 * (along < 0 ? -along : along);
+}
+
+/* Frame 0 is the centre, and frame 1 its Y moved by (dx, dy): the middle block of nine finds it there, where the
+ * samples that it reads are not at the edge. The cost of a displacement rises with the larger of its two distances. */
+static window lend_moved(int dx, int dy, uint8_t strength)
+{
+    window w = {48, 48, 2, 0, strength, {{{0, 0, 0}}}};
+    lend_frames(&w, 48, 24);
+    for (int y = 0; y < 48; y++)
+        for (int x = 0; x < 48; x++) {
+            put_sample(0, 0, x, y, (uint8_t)(60 + wave(x) + wave(y)));
+            put_sample(1, 0, x, y, (uint8_t)(60 + wave(x - dx) + wave(y - dy)));
+        }
+    keep_bytes(&picture);
+    return w;
+}
+
+/* The displaced sample of the only other frame, where it has a share: what is left of the sum, by what is left of the
+ * total. */
+static int is_displaced(const window *w, const held *h, int k, int x, int y, uint32_t sample)
+{
+    samples centre = plane_of(w->centre, k);
+    size_t i = packed_start(w, k) + (size_t)(y * centre.columns + x);
+    uint32_t share = h->weights[i] - 16;
+    return share > 0 && h->sums[i] == 16 * (uint32_t)sample_at(centre, x, y) + share * sample;
+}
+
+/* U of the other frame is 255 at (11, 11) and (12, 11), V at (9, 13) and (10, 13), and 0 everywhere else; the centre's
+ * U and V are `centre`. At (11, 11) of U and (9, 13) of V the displaced sample is `sample`. */
+static void check_pair(int dx, int dy, uint8_t centre, uint32_t sample)
+{
+    static held h;
+    window w = lend_moved(dx, dy, 6);
+    for (int k = 1; k <= 2; k++) {
+        for (int i = 0; i < 24 * 24; i++)
+            put_sample(0, k, i % 24, i / 24, centre);
+        for (int i = 0; i < 2; i++)
+            put_sample(1, k, k == 1 ? 11 + i : 9 + i, k == 1 ? 11 : 13, 255);
+    }
+    keep_bytes(&picture);
+    build_window(HALF_SAMPLE, &w, &h);
+    CHECK(is_displaced(&w, &h, 1, 11, 11, sample));
+    CHECK(is_displaced(&w, &h, 2, 9, 13, sample));
+}
+
+/* U rises by 4 from column to column, V from row to row: half a sample is 2, so that any component d moves by 2 d; by
+ * the old rule half of d toward zero moves by 4 times that. */
+static void check_component(int d)
+{
+    static held h;
+    for (int turned = 0; turned < 2; turned++) {
+        window w = lend_moved(turned ? 0 : d, turned ? d : 0, 6);
+        for (int i = 0; i < 24 * 24; i++)
+            for (size_t g = 0; g < 2; g++) {
+                put_sample(g, 1, i % 24, i / 24, (uint8_t)(60 + 4 * (i % 24)));
+                put_sample(g, 2, i % 24, i / 24, (uint8_t)(60 + 4 * (i / 24)));
+            }
+        keep_bytes(&picture);
+        int k = turned ? 2 : 1, x = turned ? 9 : 12, y = turned ? 12 : 9;
+        build_window(HALF_SAMPLE, &w, &h);
+        CHECK(is_displaced(&w, &h, k, x, y, (uint32_t)(60 + 48 + 2 * d)));
+        CHECK(is_displaced(&w, &h, 3 - k, x, y, 60 + 36));
+        build_window(FROM_NUMBERS, &w, &h);
+        CHECK(is_displaced(&w, &h, k, x, y, (uint32_t)(60 + 48 + d / 2 * 4)));
+    }
+}
+
+static void half_samples_by_hand(void)
+{
+    /* across 0 0 255 255 0 0: 39270 + 64 is 307 times 128 and more, 255; down 0 0 255 0 0 0: 19635 + 64, 153 */
+    check_pair(1, 0, 200, 255);
+    check_pair(0, 1, 150, 153);
+    check_pair(1, 1, 150, 153);
+    /* a column further left, 0 0 0 255 255 0: 61 * 255 = 15555, 122; then 77 * 122 = 9394, 73 */
+    check_pair(-1, 0, 150, 122);
+    check_pair(-1, 1, 50, 73);
+    check_pair(-1, -1, 50, 73);
+    check_pair(0, -1, 150, 153);
+    /* 3 for the first of two, -16 for the second: below 0; one column on, 3 * 255 = 765, 6 */
+    check_pair(5, 0, 10, 0);
+    check_pair(7, 0, 10, 6);
+    check_pair(-3, 0, 10, 0);
+    check_pair(-5, 0, 10, 6);
+    check_pair(2, 0, 200, 255);
+    check_pair(-2, 0, 10, 0);
+    for (int d = -15; d <= 15; d++)
+        check_component(d);
+}
+
+/* Every displacement of the middle block; U and V of both frames are noise. */
+static void moved_windows(void)
+{
+    for (int dy = -15; dy <= 15; dy++)
+        for (int dx = -15; dx <= 15; dx++) {
+            window w = lend_moved(dx, dy, 6);
+            for (size_t g = 0; g < 2; g++)
+                for (int i = 0; i < 2 * 24 * 24; i++)
+                    put_sample(g, 1 + i % 2, i / 2 % 24, i / 48, drawn_sample(g == 1 && dx % 3 == 0));
+            keep_bytes(&picture);
+            check_window(&w);
+            CHECK(w.found[1][4].dx == dx && w.found[1][4].dy == dy && w.found[1][4].sad == 0);
+        }
+}
+
+/* One to four frames of noise, so near to 100 in Y that most blocks are accepted, wherever they are found. */
+static void check_noise(int width, int height, unsigned n)
+{
+    static const uint8_t strengths[8] = {6, 1, 3, 255, 0, 5, 2, 4};
+    const uint32_t columns = (uint32_t)width, half_columns = (columns + 1) / 2;
+    const uint32_t luma_strides[4] = {columns, columns + 3, columns - 1, 0};
+    const uint32_t chroma_strides[5] = {half_columns, half_columns + 2, half_columns - 1, 1, 0};
+    size_t count = 1 + (n + 2) % 4;
+    window w = {width, height, count, n % count, strengths[n % 8], {{{0, 0, 0}}}};
+    uint32_t reach = n % 5 == 4 ? 60 : 24;
+    lend_frames(&w, luma_strides[n % 7 < 4 ? 0 : n % 7 - 3], chroma_strides[n % 9 < 5 ? 0 : n % 9 - 4]);
+    for (size_t i = 0; i < picture.length; i++)
+        at_bytes(&picture)[i] = drawn_sample(n % 3 == 0);
+    for (size_t g = 0; g < count; g++) {
+        samples luma = plane_of(g, 0);
+        for (size_t i = 0; i < needed((size_t)luma.stride, columns, (size_t)height); i++)
+            at_bytes(&picture)[at_words(&numbers)[g * VP8MODEL_NUMBERS_PER_FRAME + 2] + i] =
+                (uint8_t)(100 + drawn(reach));
+        if (n % 2 == 0)
+            put_cap(g, drawn(VP8MODEL_MAX_CAP + 1));
+    }
+    keep_bytes(&picture);
+    check_window(&w);
+}
+
+static void windows_of_noise(void)
+{
+    static const int sides[12] = {1, 2, 3, 4, 15, 16, 17, 18, 31, 32, 33, 34};
+    unsigned n = 0;
+    for (int i = 0; i < 144; i++)
+        for (int times = 0; times < 4; times++)
+            check_noise(sides[i % 12], sides[i / 12], n++);
+}
+
+/* That the windows above were of every kind: each component in each direction, odd and even ones beside one another. */
+static void kinds_of_windows(void)
+{
+    unsigned parities[2][2] = {{0, 0}, {0, 0}};
+    for (int d = 0; d < 31; d++) {
+        unsigned across = 0, down = 0;
+        for (int other = 0; other < 31; other++) {
+            across += met[other][d];
+            down += met[d][other];
+            parities[d % 2][other % 2] += met[d][other];
+        }
+        CHECK(across > 20 && down > 20);
+    }
+    for (int i = 0; i < 4; i++)
+        CHECK(parities[i / 2][i % 2] > 200);
+    CHECK(met_even > 20 && met_cropped > 20 && met_other_u > 500 && met_other_v > 500);
 }
 
 int main(void)
@@ -1860,14 +2383,20 @@ int main(void)
     longest_pictures_within();
     weight_curves();
     frames_as_numbers();
-    refused_builds(CHECKS_ONLY);
-    refused_builds(FROM_NUMBERS);
-    refused_builds(FROM_RECORDS);
-    accepted_builds(FROM_NUMBERS);
-    accepted_builds(FROM_RECORDS);
+    for (int which = CHECKS_ONLY; which <= LAST_BUILDER; which++)
+        refused_builds((enum builder)which);
+    for (int which = FROM_NUMBERS; which <= LAST_BUILDER; which++)
+        accepted_builds((enum builder)which);
     legal_checks();
-    leftover_numbers();
+    leftover_numbers(FROM_NUMBERS);
+    leftover_numbers(HALF_SAMPLE);
     caps();
+    for (int which = CHECKS_ONLY; which <= LAST_BUILDER; which++)
+        builds_refused_in_order((enum builder)which);
+    half_samples_by_hand();
+    moved_windows();
+    windows_of_noise();
+    kinds_of_windows();
     printf("calls: %u checks, %u failed\n", checks, failed);
     return failed == 0 ? 0 : 1;
 }
