@@ -2,7 +2,7 @@
 
 use crate::failure::Failure;
 use crate::files::{append, opened, room, zeros};
-use crate::model::{self, Filled, Frame, MAX_CAP};
+use crate::model::{self, Chroma, Filled, Frame, MAX_CAP};
 use crate::names::{Named, apart};
 use crate::outputs::{self, Content};
 use crate::progress::Progress;
@@ -11,7 +11,8 @@ use crate::words::Words;
 use std::fs::File;
 use std::path::Path;
 
-const OPTIONS: [&str; 7] = ["--width", "--height", "--strength", "--centre", "--caps", "--sums", "--weights"];
+const OPTIONS: [&str; 8] =
+    ["--width", "--height", "--strength", "--centre", "--caps", "--chroma", "--sums", "--weights"];
 
 pub fn run(words: &[String]) -> Result<(), Failure> {
     let words = Words::parse(words, &OPTIONS)?;
@@ -19,6 +20,8 @@ pub fn run(words: &[String]) -> Result<(), Failure> {
     let strength: u8 = words.number("--strength", u8::MAX)?;
     let centre: u32 = words.number("--centre", u32::MAX)?;
     let caps = words.list("--caps", u32::MAX)?;
+    let chroma = words.one_of("--chroma", &[("whole", Chroma::Whole), ("half", Chroma::Half)])?;
+    let chroma = chroma.unwrap_or(Chroma::Whole);
     let [input, output] = words.files("IN.i420 and OUT.i420")?;
     let outputs = Outputs::named(&words, &input, &output)?;
     let size = Size::new(width, height);
@@ -26,18 +29,16 @@ pub fn run(words: &[String]) -> Result<(), Failure> {
     let caps = caps_of(caps, &size, count)?;
     let bytes = read_frames(&mut file, &input, &size, count)?;
     let frames = records(&input, &size, count, caps)?;
-    let legal = (1..=16383).contains(&width) && (1..=16383).contains(&height);
-    let samples = if legal { size.samples() } else { 0 };
-    let mut filled = Filled {
-        output: zeros(samples, "bytes of the picture")?,
-        sums: zeros(samples, "sums")?,
-        weights: zeros(samples, "total weights")?,
+    let mut filled = lent(&size)?;
+    let (samples, others) = (filled.output.len(), count.saturating_sub(1));
+    let by = match chroma {
+        Chroma::Whole => "",
+        Chroma::Half => ", with half samples in U and V",
     };
-    let others = count.saturating_sub(1);
     note(&format!(
-        "denoise: {count} frames of {samples} samples: {others} others into frame {centre} at strength {strength}"
+        "denoise: {count} frames of {samples} samples: {others} others into frame {centre} at strength {strength}{by}"
     ));
-    let built = model::build(&bytes, &frames, centre as usize, strength, &mut filled)?;
+    let built = model::build(&bytes, &frames, centre as usize, strength, chroma, &mut filled)?;
     let cropped = strength == 0 || others == 0;
     if cropped {
         filled.sums.clear();
@@ -112,6 +113,17 @@ impl Size {
         let [y, u, v] = [u32::try_from(y).ok()?, u32::try_from(u).ok()?, u32::try_from(v).ok()?];
         Some(Frame { width, height, y, u, v, luma_stride: width, chroma_stride: chroma, cap: MAX_CAP })
     }
+}
+
+// What a build fills; nothing where the model will refuse the size.
+fn lent(size: &Size) -> Result<Filled, Failure> {
+    let legal = (1..=16383).contains(&size.width) && (1..=16383).contains(&size.height);
+    let samples = if legal { size.samples() } else { 0 };
+    Ok(Filled {
+        output: zeros(samples, "bytes of the picture")?,
+        sums: zeros(samples, "sums")?,
+        weights: zeros(samples, "total weights")?,
+    })
 }
 
 // The caps, where they are given: one for each frame. A size without samples has no frames to count; the model refuses

@@ -20,8 +20,8 @@ use std::process::ExitCode;
 const HELP: &str = "\
 vp8model: a proved model of a VP8 encoder's picture pre-filter and luma motion search
 
-  vp8model denoise --width W --height H --strength S --centre C [--caps C0,C1,..] [--sums FILE] [--weights FILE]
-                   IN.i420 OUT.i420
+  vp8model denoise --width W --height H --strength S --centre C [--caps C0,C1,..] [--chroma whole|half]
+                   [--sums FILE] [--weights FILE] IN.i420 OUT.i420
 
     Reads raw I420 frames (Y, U, V, packed, 8 bits; chroma is half of each side, rounded up), as many as the file's
     length gives, and writes frame C (counted from 0) with the others blended in, packed. Strength 0 writes the
@@ -32,6 +32,8 @@ vp8model: a proved model of a VP8 encoder's picture pre-filter and luma motion s
     --caps has a number for each frame of the file, with commas between: its cap, the most that the frame may weigh in
     a sample, where the centre weighs 16. A frame with cap 0 has no part in the picture. The centre's cap is not used.
     Without --caps every cap is 16, which bounds no weight; the model refuses 17 to 4294967295.
+    --chroma says how a block's displacement, which is found in Y, is halved for U and V: toward zero to whole samples
+    (whole, the default), or with half samples where it is odd, as in RFC 6386 (half). It changes nothing in Y.
 
   vp8model search --width W --height H [--limit N] [--bitstream V] REFERENCE.y SOURCE.y
 

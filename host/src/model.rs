@@ -18,6 +18,17 @@ pub struct Frame {
 /// The greatest cap, which bounds no weight.
 pub const MAX_CAP: u32 = 16;
 
+const NUMBERS_PER_FRAME: usize = size_of::<Frame>() / size_of::<u32>();
+
+/// How a luma displacement is halved for U and V.
+#[derive(Clone, Copy)]
+pub enum Chroma {
+    /// Toward zero, to whole samples.
+    Whole,
+    /// Down, with a half sample where it is odd.
+    Half,
+}
+
 #[repr(C)]
 pub struct Build {
     refusal: u32,
@@ -66,6 +77,10 @@ unsafe extern "C" {
         bytes: *const u8, bytes_len: usize, frames: *const Frame, frames_len: usize, centre: usize, strength: u8,
         output: *mut u8, output_len: usize, sums: *mut u32, sums_len: usize, weights: *mut u32, weights_len: usize,
     ) -> Build;
+    fn vp8model_build_half_sample(
+        bytes: *const u8, bytes_len: usize, numbers: *const u32, numbers_len: usize, centre: usize, strength: u8,
+        output: *mut u8, output_len: usize, sums: *mut u32, sums_len: usize, weights: *mut u32, weights_len: usize,
+    ) -> Build;
     fn vp8model_small_diamond_search_luma(
         plane: *const u8, len: usize, stride: usize, width: usize, height: usize, mb_col: usize, mb_row: usize,
         src_y: &[u8; 256], center_row: i16, center_col: i16, max_iters: u32,
@@ -99,15 +114,21 @@ pub struct Filled {
 
 #[rustfmt::skip]
 pub fn build(
-    bytes: &[u8], frames: &[Frame], centre: usize, strength: u8, filled: &mut Filled,
+    bytes: &[u8], frames: &[Frame], centre: usize, strength: u8, chroma: Chroma, filled: &mut Filled,
 ) -> Result<Build, Failure> {
     let Filled { output, sums, weights } = filled;
-    // SAFETY: each pointer is that of a slice of the length beside it, and no two share bytes.
+    // SAFETY: each pointer is that of a slice of the length beside it, and no two share bytes; records are numbers.
     let built = unsafe {
-        vp8model_build_arnr_altref(
-            bytes.as_ptr(), bytes.len(), frames.as_ptr(), frames.len(), centre, strength,
-            output.as_mut_ptr(), output.len(), sums.as_mut_ptr(), sums.len(), weights.as_mut_ptr(), weights.len(),
-        )
+        match chroma {
+            Chroma::Whole => vp8model_build_arnr_altref(
+                bytes.as_ptr(), bytes.len(), frames.as_ptr(), frames.len(), centre, strength,
+                output.as_mut_ptr(), output.len(), sums.as_mut_ptr(), sums.len(), weights.as_mut_ptr(), weights.len(),
+            ),
+            Chroma::Half => vp8model_build_half_sample(
+                bytes.as_ptr(), bytes.len(), frames.as_ptr().cast(), NUMBERS_PER_FRAME * frames.len(), centre, strength,
+                output.as_mut_ptr(), output.len(), sums.as_mut_ptr(), sums.len(), weights.as_mut_ptr(), weights.len(),
+            ),
+        }
     };
     let Build { width, height, other_width, other_height, frame, .. } = built;
     let values = match built.refusal {

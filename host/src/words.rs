@@ -59,6 +59,17 @@ impl Words {
         self.value(name).map(parsed).transpose()
     }
 
+    /// What one of these words means; the option may be left out.
+    pub fn one_of<T: Copy>(&self, name: &str, known: &[(&str, T)]) -> Result<Option<T>, Failure> {
+        let meant = |value: &str| {
+            known.iter().find(|(word, _)| *word == value).map(|&(_, meant)| meant).ok_or_else(|| {
+                let words: Vec<&str> = known.iter().map(|&(word, _)| word).collect();
+                Failure::Usage(format!("{name} {value}: expected {}", words.join(" or ")))
+            })
+        };
+        self.value(name).map(meant).transpose()
+    }
+
     pub fn path(&self, name: &str) -> Option<PathBuf> {
         self.value(name).map(PathBuf::from)
     }
