@@ -73,16 +73,30 @@ static void strengths(void)
 static uint8_t output[MOST];
 static uint32_t sums[MOST], weights[MOST];
 
-static vp8model_build build(const uint8_t *bytes, size_t bytes_len, const vp8model_frame *frames, size_t count,
-                            size_t centre, uint8_t strength, size_t output_len, size_t sums_len)
+static void lend_slices(void)
 {
     for (size_t i = 0; i < MOST; i++) {
         output[i] = MARK;
         sums[i] = MARK;
         weights[i] = MARK;
     }
+}
+
+static vp8model_build build(const uint8_t *bytes, size_t bytes_len, const vp8model_frame *frames, size_t count,
+                            size_t centre, uint8_t strength, size_t output_len, size_t sums_len)
+{
+    lend_slices();
     return vp8model_build_arnr_altref(bytes, bytes_len, frames, count, centre, strength, output, output_len, sums,
                                       sums_len, weights, MOST);
+}
+
+/* With half samples in U and V; the records are passed as their numbers. */
+static vp8model_build build_half(const uint8_t *bytes, size_t bytes_len, const vp8model_frame *frames, size_t count,
+                                 size_t centre, uint8_t strength)
+{
+    lend_slices();
+    return vp8model_build_half_sample(bytes, bytes_len, (const uint32_t *)frames, VP8MODEL_NUMBERS_PER_FRAME * count,
+                                      centre, strength, output, MOST, sums, MOST, weights, MOST);
 }
 
 static void print_words(const char *what, const uint32_t *v, size_t n)
@@ -634,6 +648,115 @@ static void two_passes(void)
     close_case();
 }
 
+/* ---- half samples: an edge of 48 by 1 or of 1 by 48, and the corner of 17 by 17 */
+
+#define LINE 48
+#define LINE_SAMPLES (2 * LINE)
+
+static uint8_t line_bytes[2 * LINE_SAMPLES];
+
+/* Frame 0 is the centre. The other frame's edge in Y stands `moved` samples further on. */
+static void lend_line(int moved)
+{
+    uint8_t *centre = line_bytes, *other = line_bytes + LINE_SAMPLES;
+    memset(centre, 100, LINE_SAMPLES);
+    for (int x = 0; x < LINE; x++) {
+        centre[x] = x < 24 ? 50 : 90;
+        other[x] = x < 24 + moved ? 50 : 90;
+    }
+    for (int x = 0; x < LINE / 2; x++) {
+        other[LINE + x] = (uint8_t)(52 + 4 * x);
+        other[LINE + LINE / 2 + x] = x <= 12 ? 100 : 140;
+    }
+}
+
+static void print_entry(const char *what, size_t i)
+{
+    printf("%s sum %" PRIu32 ", total %" PRIu32, what, sums[i], weights[i]);
+}
+
+/* U and V at sample 12 of their line, by one builder or the other. */
+static void print_line(const char *what, int half, int moved, uint32_t width, uint32_t height)
+{
+    const vp8model_frame frames[2] = {{width, height, 0, 48, 72, width, (width + 1) / 2, 16},
+                                      {width, height, 96, 144, 168, width, (width + 1) / 2, 16}};
+    vp8model_build b = half ? build_half(line_bytes, sizeof line_bytes, frames, 2, 0, 6)
+                            : build(line_bytes, sizeof line_bytes, frames, 2, 0, 6, MOST, MOST);
+    require(b.refusal == 0 && b.accepted == 3, "a line was refused, or a block of it excluded");
+    printf("%s = %d, %s:", what, moved, half ? "half" : "whole");
+    print_entry(" U", LINE + 12);
+    print_entry("; V", LINE + LINE / 2 + 12);
+    printf("\n");
+}
+
+static void half_components(void)
+{
+    static const int components[7] = {-15, -2, -1, 0, 1, 2, 15};
+    open_case("half-components");
+    for (size_t i = 0; i < 7; i++) {
+        lend_line(components[i]);
+        print_line("dx", 0, components[i], LINE, 1);
+        print_line("dx", 1, components[i], LINE, 1);
+        print_line("dy", 1, components[i], 1, LINE);
+    }
+    close_case();
+}
+
+/* The other frame's U and V of the corner. */
+static uint8_t corner_chroma(int plane, int x, int y)
+{
+    return (uint8_t)(plane == 1 ? 100 + 10 * x + 50 * y : 10 * x + 60 * y);
+}
+
+/* The corner's window with that U and V, by one builder or the other: the last sample of each plane. */
+static void print_corner(int half, int dx, int dy)
+{
+    static const vp8model_frame frames[2] = {{SIDE, SIDE, 0, 289, 370, SIDE, CHROMA_SIDE, 16},
+                                             {SIDE, SIDE, 451, 740, 821, SIDE, CHROMA_SIDE, 16}};
+    uint8_t marks[3][3] = {{16, 8, 108}, {12, 8, 104}, {(uint8_t)(16 + dx), (uint8_t)(16 + dy), 102}};
+    lend_corner((const uint8_t (*)[3])marks, 3);
+    for (int i = 0; i < 2 * CHROMA_SIDE * CHROMA_SIDE; i++) {
+        int at = i % (CHROMA_SIDE * CHROMA_SIDE);
+        corner_bytes[740 + i] = corner_chroma(i < 81 ? 1 : 2, at % CHROMA_SIDE, at / CHROMA_SIDE);
+    }
+    vp8model_build b = half ? build_half(corner_bytes, sizeof corner_bytes, frames, 2, 0, 6)
+                            : build(corner_bytes, sizeof corner_bytes, frames, 2, 0, 6, MOST, MOST);
+    require(b.refusal == 0, "the window of 17 by 17 was refused");
+    printf("(%d, %d), %s: accepted %" PRIu32, dx, dy, half ? "half" : "whole", b.accepted);
+    print_entry("; Y", 288);
+    print_entry("; U", 369);
+    print_entry("; V", 450);
+    printf("\n");
+}
+
+/* Both passes of the last sample of a plane at the displacement (-3, -9), which the builder's sum has to hold. */
+static void print_passes(int plane, size_t entry)
+{
+    uint8_t six[6], down[6];
+    char what[32];
+    for (int y = 1; y <= 6; y++) {
+        for (int x = 4; x <= 9; x++)
+            six[x - 4] = corner_chroma(plane, x < 8 ? x : 8, y);
+        snprintf(what, sizeof what, "%s, across, row %d", plane == 1 ? "U" : "V", y);
+        down[y - 1] = filtered(4, six, what);
+    }
+    uint8_t sample = filtered(4, down, plane == 1 ? "U, down" : "V, down");
+    require(sums[entry] == 16 * 100 + (weights[entry] - 16) * sample, "a sum does not hold the half sample");
+}
+
+static void half_passes(void)
+{
+    static const int displacements[4][2] = {{-4, -8}, {-3, -8}, {-4, -9}, {-3, -9}};
+    open_case("half-passes");
+    for (size_t i = 0; i < 4; i++) {
+        print_corner(0, displacements[i][0], displacements[i][1]);
+        print_corner(1, displacements[i][0], displacements[i][1]);
+    }
+    print_passes(1, 369);
+    print_passes(2, 450);
+    close_case();
+}
+
 /* ---- bilinear rows: four samples a b over c d, the first that of the macroblock, in a halo of 9 */
 
 /* The first sample of the macroblock, or the one below it. */
@@ -975,6 +1098,8 @@ int main(void)
     refinements();
     orders();
     two_passes();
+    half_components();
+    half_passes();
     bilinear();
     picture();
     allowance();
