@@ -94,17 +94,8 @@ pub fn build_from_numbers(
       weights = now (weights .exit);
     }) ⌝ }
 {
-    let choice = Choice { half_sample: false };
-    build_by(
-        bytes,
-        numbers,
-        centre,
-        config,
-        choice,
-        output,
-        sums,
-        weights,
-    )
+    let whole = Choice { half_sample: false };
+    build_by(bytes, numbers, centre, config, whole, output, sums, weights)
 }
 
 // The same with half samples in U and V.
@@ -130,15 +121,6 @@ pub fn build_half_sample(
       weights = now (weights .exit);
     }) ⌝ }
 {
-    let choice = Choice { half_sample: true };
-    build_by(
-        bytes,
-        numbers,
-        centre,
-        config,
-        choice,
-        output,
-        sums,
-        weights,
-    )
+    let half = Choice { half_sample: true };
+    build_by(bytes, numbers, centre, config, half, output, sums, weights)
 }

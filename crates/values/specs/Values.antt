@@ -1,24 +1,27 @@
 -- The starred lines of document 01: rows of one table, each what a definition gives and what the paper says, under one claim; and the
 -- values of document 02's requests, rows of a second table under another. Assumes nothing.
-use mathlib.Core.Bool.{Bool, cond}
+use mathlib.Core.Bool.{Bool, cond, _&&_, _||_}
 use mathlib.Core.List.{List, [], _∷_, map}
 use mathlib.Core.Path.{_≡_, refl}
 use Prim.Native.Nat.{ℕ}
 use lib.ListN.{getD}
-use lib.IntN.{ℤ, pos}
-use Rattle.laws.specs.Signed.{minus}
+use lib.IntN.{ℤ, pos, _+ℤ_, _-ℤ_}
+use Rattle.laws.specs.Signed.{above, minus, floorDiv, eqZ}
 use Rattle.laws.specs.Sums.{sumBelow, sumOver}
 use Rattle.laws.specs.Largest.{largest, nearest}
 use Rattle.laws.specs.Best.{betterOf, bestAmong, bestIn}
 use Rattle.prediction.specs.Samples.{distance}
 use Rattle.prediction.specs.Vector.{doubled, wholeOf, fractionOf}
 use Rattle.prediction.specs.Filter.{products, filtered, sixtapRows, sixtap}
+use Rattle.prediction.specs.Plane.{Samples}
+use Rattle.prediction.specs.Prediction.{horizontalAt, verticalAt}
 use Rattle.weights.specs.Weights.{scale, weightOf, weightRead, cappedWeight}
 use Rattle.weights.specs.Blend.{totalWeight, weightedSum, denoised, distanceBound}
 use Rattle.window.specs.Layout.{sideOf}
 use Rattle.search.specs.Search.{onGrid}
 use Rattle.denoiser.specs.Grid.{gridBlock, blockIn}
 use Rattle.denoiser.specs.Search.{halved, sadOf, neighbourOf, neighboursOf, stepped, measuredBy, blockSearch}
+use Rattle.denoiser.specs.Chroma.{halfDown, halfRow, halfSample}
 use Rattle.denoiser.specs.Window.{Other, Scene, Window, gate, shareOf, totalAt, sumAt, denoisedAt, acceptedIn, acceptedBlocks}
 use Rattle.denoiser.specs.Window.{costOf, displacementOf, sadAccepted, blockAccepted, displacedAt, arnrRule}
 
@@ -96,6 +99,21 @@ sample cap = pos (denoisedAt (arnrRule flat) (capped cap) 0 0 0)
 blocks : ℕ → ℤ
 blocks cap = pos (acceptedBlocks (arnrRule flat) (capped cap))
 
+-- samples that are 255 at (0, 0) and (1, 0) and 0 everywhere else, and their half sample at (0, 0)
+spot : Samples
+spot x y = cond (eqZ y (pos 0) && (eqZ x (pos 0) || eqZ x (pos 1))) 255 0
+
+halfSpot : ℤ → ℤ → ℤ
+halfSpot dx dy = pos (halfSample (record { dx = dx; dy = dy }) spot (pos 0) (pos 0))
+
+-- at (1, 1), were the pass down the first, and were the first pass not clamped at 255
+downFirst : ℤ
+downFirst = pos (horizontalAt sixtap 4 (verticalAt sixtap 4 spot) (pos 0) (pos 0))
+
+unclamped : ℤ
+unclamped =
+    pos (filtered (sixtap 4) (λ j. above (floorDiv (products (sixtap 4) (λ i. spot (pos i -ℤ pos 2) (pos j -ℤ pos 2)) 6 +ℤ pos 64) 128)))
+
 pub requested : List Row
 requested =
     -- request 7, centre 100, one other 104, strength 1: caps 16 and 8 give total 24, sum 2432, sample 101
@@ -107,8 +125,24 @@ requested =
     row (total 0) (pos 16) ∷ row (sum 0) (pos 1600) ∷ row (sample 0) (pos 100) ∷
     -- and the block is accepted and counted at every cap
     row (blocks 16) (pos 1) ∷ row (blocks 0) (pos 1) ∷
+    -- request 6, a component's whole offset and row: -15 gives -8 and 4, -2 gives -1 and 0, -1 gives -1 and 4, 0 gives 0 and 0
+    row (halfDown (minus 15)) (minus 8) ∷ row (pos (halfRow (minus 15))) (pos 4) ∷
+    row (halfDown (minus 2)) (minus 1) ∷ row (pos (halfRow (minus 2))) (pos 0) ∷
+    row (halfDown (minus 1)) (minus 1) ∷ row (pos (halfRow (minus 1))) (pos 4) ∷
+    row (halfDown (pos 0)) (pos 0) ∷ row (pos (halfRow (pos 0))) (pos 0) ∷
+    -- 1 gives 0 and 4, 2 gives 1 and 0, 15 gives 7 and 4
+    row (halfDown (pos 1)) (pos 0) ∷ row (pos (halfRow (pos 1))) (pos 4) ∷
+    row (halfDown (pos 2)) (pos 1) ∷ row (pos (halfRow (pos 2))) (pos 0) ∷
+    row (halfDown (pos 15)) (pos 7) ∷ row (pos (halfRow (pos 15))) (pos 4) ∷
+    -- the row of a half, support 0 0 255 255 0 0: 255; support 0 255 0 0 255 0: 0
+    row (sampleOf (halfRow (pos 1)) (0 ∷ 0 ∷ 255 ∷ 255 ∷ 0 ∷ 0 ∷ [])) (pos 255) ∷
+    row (sampleOf (halfRow (pos 1)) (0 ∷ 255 ∷ 0 ∷ 0 ∷ 255 ∷ 0 ∷ [])) (pos 0) ∷
+    -- of 255 at (0, 0) and (1, 0) and 0 elsewhere the half sample at (0, 0): at (1, 0) 255, at (0, 1) 153, at (1, 1) 153
+    row (halfSpot (pos 1) (pos 0)) (pos 255) ∷ row (halfSpot (pos 0) (pos 1)) (pos 153) ∷ row (halfSpot (pos 1) (pos 1)) (pos 153) ∷
+    -- where the pass down first would give 184, and no clamp between the passes 185
+    row downFirst (pos 184) ∷ row unclamped (pos 185) ∷
     []
 
 pub request-values : map (λ (r : Row). r .given) requested ≡ map (λ (r : Row). r .paper) requested
-unfolding requested row flat capped total sum sample blocks totalAt sumAt denoisedAt totalWeight weightedSum denoised sumBelow sumOver shareOf arnrRule gate cappedWeight weightRead weightOf scale acceptedIn acceptedBlocks costOf displacementOf blockAccepted displacedAt sadOf neighbourOf neighboursOf stepped measuredBy blockSearch bestIn bestAmong betterOf
+unfolding requested row flat capped total sum sample blocks spot halfSpot downFirst unclamped sampleOf halfSample horizontalAt verticalAt filtered products sixtap sixtapRows totalAt sumAt denoisedAt totalWeight weightedSum denoised sumBelow sumOver shareOf arnrRule gate cappedWeight weightRead weightOf scale acceptedIn acceptedBlocks costOf displacementOf blockAccepted displacedAt sadOf neighbourOf neighboursOf stepped measuredBy blockSearch bestIn bestAmong betterOf
 request-values = refl
