@@ -1,6 +1,6 @@
 //! Finds the originals and writes, into OUT_DIR only, what the crate root includes:
 //! a `mod` line for each of the six files, derived copies of motion_search.rs and arnr.rs that count, one of
-//! motion_search.rs that takes a version and one of arnr.rs that takes caps.
+//! motion_search.rs that takes a version, and of arnr.rs one that takes caps and one that moves chroma by half samples.
 //! VP8_SOURCES names their folder; a relative one, as the default, is seen from the repository's root.
 //! Links the model's static library where MODEL_LIB names it, for the comparison and the benchmark.
 
@@ -28,6 +28,7 @@ fn main() {
         fs::write(out.join("counted_motion_search.rs"), counted_search(&folder)).unwrap();
         fs::write(out.join("counted_arnr.rs"), counted_builder(&folder)).unwrap();
         fs::write(out.join("capped_arnr.rs"), capped_builder(&folder)).unwrap();
+        fs::write(out.join("half_sample_arnr.rs"), half_sample_builder(&folder)).unwrap();
         fs::write(out.join("versioned_motion_search.rs"), versioned_search(&folder)).unwrap();
     } else {
         println!("cargo::rustc-cfg=sources_absent");
@@ -61,7 +62,9 @@ fn mod_lines(folder: &Path, out: &Path) -> String {
         format!("#[allow(dead_code, unused_imports, clippy::all)]\n#[path = {path:?}]\npub mod {name};\n")
     };
     let mut lines: String = NAMES.into_iter().map(|name| line(file(folder, name), name)).collect();
-    for name in ["counted_motion_search", "counted_arnr", "capped_arnr", "versioned_motion_search"] {
+    let derived =
+        ["counted_motion_search", "counted_arnr", "capped_arnr", "half_sample_arnr", "versioned_motion_search"];
+    for name in derived {
         lines += &line(file(out, name), name);
     }
     lines
@@ -98,6 +101,18 @@ fn capped_builder(folder: &Path) -> String {
     let skip = "        if fi == center {\n            continue;\n        }\n";
     let cut = "        let wt_table = wt_table.map(|weight| weight.min(caps[fi]));\n";
     replaced(&text, skip, &format!("{skip}{cut}"), 1)
+}
+
+// The capped arnr.rs in which U and V of an accepted block are first replaced by what motion_comp.rs predicts at the
+// block's displacement, and then accumulated with displacement 0. The displacement is kept; nothing else is changed.
+fn half_sample_builder(folder: &Path) -> String {
+    let halved = "let (cmvx, cmvy) = (mvx / 2, mvy / 2);\n";
+    let kept = "let (cmvx, cmvy) = (0, 0);\n                crate::halves::note_shift((mvx, mvy));\n";
+    let text = replaced(&capped_builder(folder), halved, kept, 1);
+    let call = "                    accumulate_chroma_block(\n";
+    let moved = "crate::halves::with_block_moved((fp, f.uv_stride), (cw, ch), (cbx, cby), (mvx, mvy))";
+    let text = replaced(&text, call, &format!("                    let moved = {moved};\n{call}"), 1);
+    replaced(&text, "(fp, f.uv_stride),\n", "(&moved, cw),\n", 1)
 }
 
 // motion_search.rs with a version as the last parameter of the SAD at any vector and of both refinements, handed on to

@@ -29,6 +29,8 @@ mod compare;
 mod counts;
 #[cfg(not(sources_absent))]
 mod denoiser;
+#[cfg(not(sources_absent))]
+mod halves;
 #[cfg(all(model, not(sources_absent)))]
 mod large;
 #[cfg(all(model, not(sources_absent)))]

@@ -1,16 +1,17 @@
-//! Frames as numbers, the builder's checks, and both builders. With a lower cap the answer of the originals' copy is
+//! Frames as numbers, the builders' checks, and the builders: two forms of the one that moves chroma by whole samples,
+//! and the one that moves it by half samples. Of the latter, and with a lower cap, the answer of the originals' copy is
 //! expected, and the second implementation must give it too.
 
 use super::answer::{Answer, Pair, numbers};
 use super::content;
 use super::guarded::Guarded;
 use super::input::{Input, Kind};
-use super::windows::{draw_numbers, draw_window};
+use super::windows::{draw_moving_window, draw_numbers, draw_window};
 use crate::arnr::ArnrConfig;
-use crate::encoder::I420Frame;
-use crate::paper::denoiser::{Built, Window, build};
-use crate::refusals::{self, Build, Frame, MAX_CAP, NUMBERS_PER_FRAME, Part, cap, planes};
-use crate::{caps, model};
+use crate::halves::{by_the_originals, is_odd, shifts};
+use crate::model;
+use crate::paper::denoiser::{Chroma, Window, build};
+use crate::refusals::{self, Build, Frame, MAX_CAP, NUMBERS_PER_FRAME, cap};
 
 #[rustfmt::skip]
 const BUILD: &[&str] = &[
@@ -18,7 +19,7 @@ const BUILD: &[&str] = &[
 ];
 
 #[rustfmt::skip]
-pub const KINDS: [Kind; 5] = [
+pub const KINDS: [Kind; 6] = [
     Kind { name: "frame_count", weight: 5, fields: &[], draw: |r| (vec![], draw_numbers(r)), answers: answer_count },
     Kind { name: "frame_at", weight: 10, fields: &["g"], draw: |r| {
                let g = r.pick(&[0, 1, 2, 3, 4, 1 << 32, 1 << 63, u64::MAX, u64::MAX / 8, u64::MAX / 8 + 1]);
@@ -27,7 +28,11 @@ pub const KINDS: [Kind; 5] = [
     Kind { name: "check_build", weight: 40, fields: BUILD, draw: draw_window, answers: answer_check },
     Kind { name: "build_from_numbers", weight: 90, fields: BUILD, draw: draw_window, answers: answer_numbers },
     Kind { name: "build_arnr_altref", weight: 90, fields: BUILD, draw: draw_window, answers: answer_records },
+    Kind { name: HALF_SAMPLE, weight: 90, fields: BUILD, draw: draw_moving_window, answers: answer_half_sample },
 ];
+
+/// The builder that moves chroma by half samples.
+pub const HALF_SAMPLE: &str = "build_half_sample";
 
 fn answer_count(input: &Input) -> Pair {
     let lent = Guarded::holding(&input.list, input.salt);
@@ -114,13 +119,23 @@ impl Slices {
 }
 
 fn answer_numbers(input: &Input) -> Pair {
+    over_numbers(input, model::build_from_numbers, Chroma::Whole)
+}
+
+fn answer_half_sample(input: &Input) -> Pair {
+    over_numbers(input, model::build_half_sample, Chroma::Half)
+}
+
+type OverNumbers = fn(&[u8], &[u32], usize, u8, model::Lent) -> model::Build;
+
+fn over_numbers(input: &Input, call: OverNumbers, chroma: Chroma) -> Pair {
     let bytes = Guarded::holding(&bytes_of(input), input.salt);
     let list = Guarded::holding(&input.list, input.salt ^ 1);
     let mut slices = Slices::of(input);
     let (centre, strength) = (input.size("centre"), input.get("strength") as u8);
-    let got = model::build_from_numbers(bytes.slice(), list.slice(), centre, strength, slices.lent());
+    let got = call(bytes.slice(), list.slice(), centre, strength, slices.lent());
     let model = slices.after(said(got)).constant("bytes", &bytes).constant("numbers", &list);
-    Pair { model, expected: built(input, bytes.slice()) }
+    Pair { model, expected: built(input, bytes.slice(), chroma) }
 }
 
 fn answer_records(input: &Input) -> Pair {
@@ -141,7 +156,7 @@ fn answer_records(input: &Input) -> Pair {
     let (centre, strength) = (input.size("centre"), input.get("strength") as u8);
     let got = model::build_arnr_altref(bytes.slice(), frames.slice(), centre, strength, slices.lent());
     let model = slices.after(said(got)).constant("bytes", &bytes).constant("frames", &frames);
-    Pair { model, expected: built(input, bytes.slice()) }
+    Pair { model, expected: built(input, bytes.slice(), Chroma::Whole) }
 }
 
 /// Whether the share of a frame beside the centre has a cap below 16, of a window whose sums are written.
@@ -150,9 +165,19 @@ pub fn caps_a_share(input: &Input) -> bool {
     input.get("strength") > 0 && input.frames().iter().enumerate().any(lower)
 }
 
-// What a builder is expected to say and leave: the picture, sums and weights of the original, or with a lower cap of its
-// copy, in the first entries.
-fn built(input: &Input, bytes: &[u8]) -> Answer {
+/// Whether an accepted input has an accepted block that is displaced by an odd component.
+pub fn moves_by_half(input: &Input) -> bool {
+    let (bytes, frames) = (bytes_of(input), input.frames());
+    shifts(&window(input, &bytes, &frames)).iter().any(is_odd)
+}
+
+fn window<'a>(input: &Input, bytes: &'a [u8], frames: &'a [Frame]) -> Window<'a> {
+    Window { bytes, frames, centre: input.size("centre"), strength: input.get("strength") as u8 }
+}
+
+// What a builder is expected to say and leave: the picture, sums and weights of the original, or of its copy, in the
+// first entries.
+fn built(input: &Input, bytes: &[u8], chroma: Chroma) -> Answer {
     let frames = input.frames();
     let (refusal, mut wanted) = checked(input, &frames);
     let before = Slices::of(input);
@@ -160,10 +185,11 @@ fn built(input: &Input, bytes: &[u8]) -> Answer {
     let mut weights = before.weights.slice().to_vec();
     let mut faults = Vec::new();
     if refusal == 0 {
-        let window =
-            Window { bytes, frames: &frames, centre: input.size("centre"), strength: input.get("strength") as u8 };
-        let got = by_the_originals(&window);
-        if frames.iter().any(|frame| cap(frame) < MAX_CAP) && got != build(&window) {
+        let window = window(input, bytes, &frames);
+        let config = ArnrConfig::default().with_strength(window.strength);
+        let got = by_the_originals(&window, &config, chroma);
+        let by_a_copy = chroma == Chroma::Half || frames.iter().any(|frame| cap(frame) < MAX_CAP);
+        if by_a_copy && got != build(&window, chroma) {
             faults.push("the second implementation builds otherwise".to_string());
         }
         output[..got.output.len()].copy_from_slice(&got.output);
@@ -172,21 +198,4 @@ fn built(input: &Input, bytes: &[u8]) -> Answer {
         wanted[2] = got.accepted as i64;
     }
     Answer { faults, ..Answer::new(refusal, &wanted).holding(&output).holding(&sums).holding(&weights) }
-}
-
-// An accepted window's build.
-fn by_the_originals(window: &Window) -> Built {
-    let part = |p: &Part| &window.bytes[p.start as usize..p.end() as usize];
-    let picture = |f: &Frame| {
-        let [y, u, v] = planes(f);
-        let (y_stride, uv_stride) = (y.stride as usize, u.stride as usize);
-        let [y, u, v] = [part(&y), part(&u), part(&v)];
-        I420Frame { width: f[0], height: f[1], y, u, v, y_stride, uv_stride }
-    };
-    let pictures: Vec<I420Frame> = window.frames.iter().map(picture).collect();
-    let caps: Vec<u32> = window.frames.iter().map(cap).collect();
-    let config = ArnrConfig::default().with_strength(window.strength);
-    let got = caps::build(&pictures, &caps, window.centre, &config).expect("an accepted window");
-    let output = [&got.picture.y[..], &got.picture.u, &got.picture.v].concat();
-    Built { output, sums: got.sums, weights: got.weights, accepted: got.accepted }
 }

@@ -2,8 +2,8 @@
 //!
 //! Where a call is refused, the expected number and values come from refusals.rs, and every lent slice must
 //! hold what it held; elsewhere the originals' answer decides, with the counts of counts.rs, at a version that of
-//! versions.rs, and with a lower cap that of caps.rs. A whole picture's is that of their single calls, within an
-//! allowance with an account kept beside them.
+//! versions.rs, with a lower cap that of caps.rs, and with half samples that of halves.rs. A whole picture's is that of
+//! their single calls, within an allowance with an account kept beside them.
 
 mod allowances;
 mod answer;
@@ -44,13 +44,14 @@ struct Plant {
 }
 
 #[rustfmt::skip]
-static PLANTS: [Plant; 6] = [
+static PLANTS: [Plant; 7] = [
     Plant { word: "--plant", call: "small_diamond_search_luma", when: |i| i.get("width") > 20, place: 2 },
     Plant { word: "--plant-rows", call: "block_sad_16x16_up_to", when: |i| i.get("ceiling") > 20, place: 1 },
     Plant { word: "--plant-version", call: "quarter_pixel_refine_luma", when: |i| i.get("version") > 0, place: 2 },
     Plant { word: "--plant-picture", call: "search_picture_luma", when: |i| i.get("width") > 20, place: 3 },
     Plant { word: "--plant-count", call: "search_picture_luma_within", when: |i| i.get("allowance") > 60, place: 1 },
     Plant { word: "--plant-cap", call: "build_from_numbers", when: builds::caps_a_share, place: 7 },
+    Plant { word: "--plant-half", call: builds::HALF_SAMPLE, when: builds::moves_by_half, place: 7 },
 ];
 
 /// Runs the comparison; whether every answer was the same. None where the words are not understood.
@@ -100,7 +101,7 @@ fn kinds() -> Vec<&'static Kind> {
     static NUMBERS: [Kind; 14] = numbers::KINDS;
     static PLANES: [Kind; 12] = planes::KINDS;
     static PICTURES: [Kind; 2] = [allowances::KIND, pictures::KIND];
-    static BUILDS: [Kind; 5] = builds::KINDS;
+    static BUILDS: [Kind; 6] = builds::KINDS;
     std::iter::once(&DEFAULT).chain(&NUMBERS).chain(&PLANES).chain(&PICTURES).chain(&BUILDS).collect()
 }
 
@@ -130,12 +131,15 @@ fn report(run: Run, index: u64, input: Input) {
     println!("compare: again: oracle/compare --seed {} --index {index}", run.seed);
 }
 
-// Inputs by call: accepted and refused; of the accepted builds those with a lower cap beside the centre.
+// Inputs by call: accepted and refused; of the accepted builds those with a lower cap beside the centre; of those with
+// half samples the accepted ones that have an odd displacement, and the refused ones.
 struct Tally {
     kinds: Vec<&'static Kind>,
     counts: Vec<[u64; 2]>,
     refused: [u64; 31],
     capped: u64,
+    half_moved: u64,
+    half_refused: [u64; 31],
     done: u64,
     last: Instant,
 }
@@ -144,7 +148,9 @@ impl Tally {
     fn new() -> Tally {
         let kinds = kinds();
         let counts = vec![[0; 2]; kinds.len()];
-        Tally { kinds, counts, refused: [0; 31], capped: 0, done: 0, last: Instant::now() }
+        let none = [0; 31];
+        let (refused, half_refused) = (none, none);
+        Tally { kinds, counts, refused, capped: 0, half_moved: 0, half_refused, done: 0, last: Instant::now() }
     }
 
     fn add(&mut self, input: &Input, pair: &Pair) {
@@ -154,6 +160,10 @@ impl Tally {
         self.refused[refusal] += 1;
         let built = refusal == 0 && input.kind.name.starts_with("build_");
         self.capped += u64::from(built && builds::caps_a_share(input));
+        if input.kind.name == builds::HALF_SAMPLE {
+            self.half_moved += u64::from(built && builds::moves_by_half(input));
+            self.half_refused[refusal] += 1;
+        }
         self.done += 1;
         if self.last.elapsed() >= Duration::from_secs(1) {
             self.last = Instant::now();
@@ -168,8 +178,14 @@ impl Tally {
             println!("  {:<28} {accepted:>7} accepted {refused:>7} refused", kind.name);
         }
         let numbers = (1..16).chain([23, 29, 30]);
-        let by_number: Vec<String> = numbers.map(|number| format!("{number}: {}", self.refused[number])).collect();
-        println!("  refusals by number: {}", by_number.join(", "));
+        println!("  refusals by number: {}", by_number(numbers, &self.refused));
         println!("  accepted builds in which another frame's cap is below 16: {}", self.capped);
+        let numbers = [1, 2, 3, 4, 29, 5, 6, 7].into_iter();
+        println!("  {}, refusals by number: {}", builds::HALF_SAMPLE, by_number(numbers, &self.half_refused));
+        println!("  {}, accepted with an odd displacement: {}", builds::HALF_SAMPLE, self.half_moved);
     }
+}
+
+fn by_number(numbers: impl Iterator<Item = usize>, counts: &[u64; 31]) -> String {
+    numbers.map(|number| format!("{number}: {}", counts[number])).collect::<Vec<String>>().join(", ")
 }

@@ -17,10 +17,20 @@ pub fn draw_numbers(random: &mut Random) -> Vec<u32> {
 
 /// The numbers in the order of the builders' fields, and the frames.
 pub fn draw_window(random: &mut Random) -> Drawn {
+    draw(random, &[1, 3, 9, 17])
+}
+
+/// The same with frames that are moved less far, so that the block search finds more of them.
+pub fn draw_moving_window(random: &mut Random) -> Drawn {
+    draw(random, &[2, 3, 4, 5])
+}
+
+// Frames that are parts of one picture are moved by less than one of these reaches.
+fn draw(random: &mut Random, reaches: &[u64]) -> Drawn {
     let many = random.below(400) == 0;
     let size = if many { (1 + random.below(4) as u32, 1 + random.below(4) as u32) } else { draw_size(random) };
     let count = if many { random.pick(&[1024, 1025]) } else { draw_count(random) };
-    let (content, pitch, mut frames) = draw_frames(random, size, count);
+    let (content, pitch, mut frames) = draw_frames(random, size, count, reaches);
     let count = frames.len() as u64;
     if random.percent(20) && count > 1 {
         let (from, to) = (random.below(count) as usize, random.below(count) as usize);
@@ -81,7 +91,12 @@ fn draw_len(random: &mut Random, samples: u64) -> i128 {
 }
 
 // The content of the picture bytes, their pitch and the frames: parts of one picture, packed, or anywhere.
-fn draw_frames(random: &mut Random, (width, height): (u32, u32), count: u64) -> (u64, u32, Vec<Frame>) {
+fn draw_frames(
+    random: &mut Random,
+    (width, height): (u32, u32),
+    count: u64,
+    reaches: &[u64],
+) -> (u64, u32, Vec<Frame>) {
     let any = random.below(content::KINDS);
     if width > 200 || height > 200 || width == 0 || height == 0 {
         let start = |random: &mut Random| random.below(300) as u32;
@@ -93,7 +108,7 @@ fn draw_frames(random: &mut Random, (width, height): (u32, u32), count: u64) -> 
     match random.below(100) {
         0..45 => {
             let pitch = width + 64;
-            let reach = random.pick(&[1, 3, 9, 17]);
+            let reach = random.pick(reaches);
             let frames = (0..count).map(|_| moved(random, (width, height), pitch, reach)).collect();
             let textured = content::TEXTURE + random.below(2);
             (random.pick(&[textured, textured, textured, content::STEEP, content::TILES]), pitch, frames)

@@ -148,7 +148,7 @@ fn add_many_frames(writer: &mut Writer) {
 mod tests {
     use super::*;
     use crate::denoiser::pictures;
-    use crate::paper::denoiser::{Built, Window, build};
+    use crate::paper::denoiser::{Built, Chroma, Window, build};
 
     // At each strength the total weights of luma and of U are others at the next cap. In V few samples are equal.
     #[test]
@@ -157,8 +157,10 @@ mod tests {
         for (strength, centre) in
             STRENGTHS.into_iter().flat_map(|strength| (0..3).map(move |centre| (strength, centre)))
         {
-            let built: [Built; 7] =
-                LEVELS.map(|cap| build(&Window { bytes: &bytes, frames: &three(centre, cap), centre, strength }));
+            let built: [Built; 7] = LEVELS.map(|cap| {
+                let window = Window { bytes: &bytes, frames: &three(centre, cap), centre, strength };
+                build(&window, Chroma::Whole)
+            });
             let planes = [0..180, 180..225];
             for (k, plane) in (1..7).flat_map(|k| planes.iter().map(move |plane| (k, plane.clone()))) {
                 let totals = |k: usize| &built[k].weights[plane.clone()];

@@ -4,8 +4,8 @@
 //! `pictures` is laid out in pictures.rs; the picture bytes of a case are its first ones. `cases` is a file of
 //! records of 18 numbers (see records.rs). Counted from 0:
 //!
-//! kinds 1 to 5 and 7, the builder, by what the case is for (see `KINDS`): [1] refusal or 0, [2] length of the picture
-//!     bytes, [3] numbers stored, [4] numbers given, which are the stored ones again and again, [5] centre,
+//! kinds 1 to 5, 7 and 8, the builders, by what the case is for (see `KINDS`): [1] refusal or 0, [2] length of the
+//!     picture bytes, [3] numbers stored, [4] numbers given, which are the stored ones again and again, [5] centre,
 //!     [6] strength, [7] how the configuration is made, [8] length of the output, [9] of the sums, [10] of the
 //!     weights, [11] bytes written to the output, [12] entries written to the sums and to the weights,
 //!     [13] to [16] the values of a refusal, or width, height and accepted blocks, [17] bytes of the payload;
@@ -13,29 +13,37 @@
 //!     the weights, three bytes each; numbers have the least byte first
 //! kind 6, ArnrConfig: [1] the strength stored, [6] the strength given, [7] how the configuration is made
 //!
-//! A frame is eight numbers; its cap is 16 in all cases but those of kind 7 and those of refusal 29.
+//! A frame is eight numbers; its cap is 16 in all cases but those of kind 7, some of kind 8 and those of refusal 29.
+//! Kind 8 is the builder that moves chroma by half samples, over numbers; the others run in both forms.
 //! A configuration is made 0 by with_strength on the default one, 1 by new, 2 by default.
 //! What a call does not write, the replay expects to find as it was.
 
 mod capped;
+mod halved;
 mod pictures;
 mod refused;
 mod windows;
+#[cfg(test)]
+mod wrong;
 
 use crate::arnr::ArnrConfig;
+use crate::counts;
 use crate::encoder::{EncodeError, I420Frame};
-use crate::paper::denoiser::{Built, Window, build};
+use crate::halves::by_the_originals;
+use crate::paper::denoiser::{Built, Chroma, Window, build};
 use crate::records::Records;
-use crate::refusals::{self, Build, Frame, NUMBERS_PER_FRAME, cap, packed_size, planes};
-use crate::{caps, counts};
+use crate::refusals::{self, Build, Frame, NUMBERS_PER_FRAME, packed_size};
 use std::path::Path;
 
 /// What the cases of each kind are for, from 1 on, in the order in which the replay prints them.
-const KINDS: [&str; 7] = ["no frames", "one frame", "strength 0", "windows", "refusals", "configurations", "caps"];
+const KINDS: [&str; 8] =
+    ["no frames", "one frame", "strength 0", "windows", "refusals", "configurations", "caps", "half samples"];
 const CONFIGURATIONS: u64 = 6;
 const CAPS: u64 = 7;
+const HALF_SAMPLES: u64 = 8;
 
-/// What the replay has room for: entries of each lent slice, numbers, and bytes of a payload.
+/// What the replay has room for: picture bytes, entries of each lent slice, numbers, and bytes of a payload.
+const MOST_BYTES: usize = 65536;
 const MOST_LENT: usize = 40000;
 const MOST_NUMBERS: usize = 8300;
 const MOST_PAYLOAD: usize = 240000;
@@ -55,16 +63,22 @@ struct Case {
 struct Writer<'a> {
     pictures: &'a [u8],
     records: Records,
+    /// Of the kind with half samples: refused, and accepted with another answer than with whole samples.
+    halves: [u64; 2],
 }
 
 /// Writes data/pictures, data/cases and stdout, which is what a replay prints where nothing differs.
 pub fn write(folder: &Path) -> std::io::Result<()> {
     let pictures = pictures::all();
-    let mut writer = Writer { pictures: &pictures, records: Records::new(18) };
+    assert!(pictures.len() <= MOST_BYTES);
+    let mut writer = Writer { pictures: &pictures, records: Records::new(18), halves: [0; 2] };
     windows::add(&mut writer);
     capped::add(&mut writer);
     refused::add(&mut writer);
     add_configurations(&mut writer.records);
+    halved::add(&mut writer);
+    let (cases, [refused, differing]) = (writer.records.of_kind(HALF_SAMPLES), writer.halves);
+    println!("half samples: {cases} cases, {refused} refused, {differing} answered otherwise than with whole samples");
     std::fs::create_dir_all(folder.join("data"))?;
     std::fs::write(folder.join("data/pictures"), &pictures)?;
     std::fs::write(folder.join("stdout"), printed(&writer.records))?;
@@ -76,7 +90,7 @@ fn printed(records: &Records) -> String {
     let cases: Vec<u64> = (1..).take(KINDS.len()).map(|kind| records.of_kind(kind)).collect();
     let kinds: String = KINDS.iter().zip(&cases).map(|(name, &cases)| line(name, cases) + "\n").collect();
     let all: u64 = cases.iter().sum();
-    let builds = all - records.of_kind(CONFIGURATIONS);
+    let builds = all - records.of_kind(CONFIGURATIONS) - records.of_kind(HALF_SAMPLES);
     let both = format!("; {builds} builds were run in both forms, over numbers and over records\n");
     kinds + &line("all", all) + &both
 }
@@ -117,6 +131,10 @@ impl Case {
         Case { lent, ..self }
     }
 
+    fn chroma(&self) -> Chroma {
+        if self.kind == HALF_SAMPLES { Chroma::Half } else { Chroma::Whole }
+    }
+
     fn numbers(&self) -> Vec<u32> {
         self.stored.iter().cycle().take(self.given).copied().collect()
     }
@@ -137,6 +155,7 @@ impl Writer<'_> {
             let values = vec![size[0].into(), size[1].into(), built.accepted];
             (built, values)
         } else {
+            self.halves[0] += u64::from(case.kind == HALF_SAMPLES);
             (Built::default(), values)
         };
         let payload = [
@@ -176,32 +195,22 @@ impl Writer<'_> {
         found
     }
 
-    // What an accepted build leaves, from the original, or with a lower cap from its copy, held against document 01's
-    // rules with request 7's caps.
-    fn built(&self, case: &Case, frames: &[Frame]) -> Built {
-        let bytes = &self.pictures[..case.bytes];
-        let part = |p: &refusals::Part| &bytes[p.start as usize..p.end() as usize];
-        let pictures: Vec<I420Frame> = frames
-            .iter()
-            .map(|f| {
-                let [y, u, v] = planes(f);
-                let strides = [y.stride as usize, u.stride as usize];
-                let [y, u, v] = [part(&y), part(&u), part(&v)];
-                I420Frame { width: f[0], height: f[1], y, u, v, y_stride: strides[0], uv_stride: strides[1] }
-            })
-            .collect();
+    // What an accepted build leaves, from the original, or from a copy of it with a lower cap and with half samples,
+    // held against document 01's rules with those of requests 6 and 7.
+    fn built(&mut self, case: &Case, frames: &[Frame]) -> Built {
         let config = configuration(case.made, case.strength);
-        let caps: Vec<u32> = frames.iter().map(cap).collect();
-        let got = caps::build(&pictures, &caps, case.centre as usize, &config).expect("an accepted window");
-        let output = [&got.picture.y[..], &got.picture.u, &got.picture.v].concat();
-        let got = Built { output, sums: got.sums, weights: got.weights, accepted: got.accepted };
-        let window = Window { bytes, frames, centre: case.centre as usize, strength: config.strength };
+        let (bytes, centre) = (&self.pictures[..case.bytes], case.centre as usize);
+        let window = Window { bytes, frames, centre, strength: config.strength };
+        let got = by_the_originals(&window, &config, case.chroma());
         assert!(
-            got == build(&window),
+            got == build(&window, case.chroma()),
             "a window of {} frames, centre {:?}",
             frames.len(),
-            frames[case.centre as usize]
+            frames[centre]
         );
+        if case.kind == HALF_SAMPLES {
+            self.halves[1] += u64::from(got != by_the_originals(&window, &config, Chroma::Whole));
+        }
         got
     }
 }

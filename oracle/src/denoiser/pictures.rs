@@ -22,7 +22,54 @@ const MIRRORS: usize = FLATS + 6 * 1100;
 /// For each of `CUT_SIZES`, and for the first sample and the middle one: 113 but for that sample of 112.
 const CUTS: usize = MIRRORS + 4 * 1089;
 pub const CUT_SIZES: [(u32, u32); 8] = [(16, 16), (1, 1), (2, 2), (15, 16), (16, 15), (1, 16), (16, 1), (7, 9)];
+/// What all cases but those of half samples are handed.
 pub const LEN: usize = CUTS + 2 * 8 * 256;
+/// 64 by 63, deepest between its samples (38, 38) and (39, 39).
+const BOWL: usize = LEN;
+/// 0 and 255.
+const HARSH: usize = BOWL + 64 * 63;
+/// For each of `SMALLEST` its centre and the other frame, both packed.
+const SMALL: usize = HARSH + 1600;
+/// What those of half samples are handed.
+pub const LEN_OF_ALL: usize = SMALL + 2 * (3 + 7 + 7 + 7 + 10 + 11 + 17);
+
+/// A picture and another frame, packed.
+pub struct Small {
+    size: (u32, u32),
+    centre: &'static [u8],
+    other: &'static [u8],
+}
+
+/// The smallest in which a wrong rule for half samples shows. In one row or one column both components of a
+/// displacement are odd or both are even, and one pass filters equal samples; chroma of one sample is the same wherever
+/// it is taken from.
+pub const SMALLEST: [Small; 7] = [
+    Small { size: (1, 1), centre: &[0, 90, 90], other: &[0, 100, 80] },
+    // displaced by (1, -1)
+    Small { size: (3, 1), centre: &[0, 12, 12, 128, 0, 135, 250], other: &[0, 0, 12, 255, 0, 20, 250] },
+    // by (-1, 1)
+    Small { size: (1, 3), centre: &[0, 12, 12, 128, 0, 135, 250], other: &[0, 0, 12, 255, 0, 20, 250] },
+    // by (-1, -1)
+    Small { size: (3, 1), centre: &[12, 12, 0, 90, 80, 120, 110], other: &[12, 0, 0, 100, 60, 90, 140] },
+    // by (1, 0)
+    Small {
+        size: (3, 2),
+        centre: &[0, 12, 12, 24, 36, 36, 90, 80, 120, 110],
+        other: &[0, 0, 12, 24, 24, 36, 120, 60, 90, 140],
+    },
+    // by (3, -3)
+    Small {
+        size: (5, 1),
+        centre: &[0, 0, 18, 18, 18, 90, 80, 85, 120, 110, 100],
+        other: &[0, 9, 27, 0, 18, 130, 60, 90, 70, 140, 100],
+    },
+    // by (1, 1)
+    Small {
+        size: (3, 3),
+        centre: &[0, 0, 0, 12, 0, 0, 12, 0, 0, 150, 60, 100, 100, 100, 180, 100, 100],
+        other: &[0, 0, 0, 12, 0, 0, 0, 12, 0, 255, 0, 100, 100, 0, 255, 100, 100],
+    },
+];
 
 pub fn all() -> Vec<u8> {
     let mut random = Random::new(21);
@@ -49,7 +96,18 @@ pub fn all() -> Vec<u8> {
         }
     }
     assert_eq!(bytes.len(), LEN);
+    bytes.extend((0..64 * 63).map(|i| bowl_at(i % 64, i / 64)));
+    let mut random = Random::new(24);
+    bytes.extend((0..1600).map(|_| if random.below(2) == 0 { 0 } else { 255 }));
+    bytes.extend(SMALLEST.iter().flat_map(|small| [small.centre, small.other]).flatten());
+    assert_eq!(bytes.len(), LEN_OF_ALL);
     bytes
+}
+
+// A fifth of the square of the distance from the deepest place.
+fn bowl_at(x: i32, y: i32) -> u8 {
+    let square = |z: i32| (2 * z - 77) * (2 * z - 77);
+    ((square(x) + square(y)) / 20).min(255) as u8
 }
 
 // Where the sample across the axis stands, of 33 by 33.
@@ -130,4 +188,39 @@ pub fn cut(index: usize, middle: usize) -> Frame {
     let size = CUT_SIZES[index];
     let at = CUTS + 512 * index + 256 * middle;
     frame(size, [at, FLATS, FLATS], (size.0 as usize, size.0.div_ceil(2) as usize))
+}
+
+/// Of the chroma planes that begin where the next three say, of at most 34 by 34.
+pub const CHROMA_STRIDE: usize = 32;
+
+/// Smooth, or the same with noise.
+pub fn smooth_chroma(index: usize, shaken: bool) -> usize {
+    (if shaken { SHAKEN } else { TEXTURE }) + 331 * index % 13000
+}
+
+/// Of one of `LEVELS`.
+pub fn flat_chroma(level: usize) -> usize {
+    FLATS + 1100 * level
+}
+
+/// Of 0 and 255.
+pub fn harsh_chroma(index: usize) -> usize {
+    HARSH + 37 * index % 510
+}
+
+/// A frame whose luma is the bowl, for a picture of at most 47 by 47: its block in the middle is displaced by (dx, dy)
+/// from the one of a frame with (0, 0). U and V begin where it says.
+pub fn bowl(size: (u32, u32), (dx, dy): (i32, i32), [u, v]: [usize; 2]) -> Frame {
+    let at = BOWL + ((15 - dy) * 64 + 15 - dx) as usize;
+    frame(size, [at, u, v], (64, CHROMA_STRIDE))
+}
+
+/// The two frames of one of `SMALLEST`.
+pub fn smallest(index: usize) -> [Frame; 2] {
+    let Small { size, centre, .. } = SMALLEST[index];
+    let at = SMALL + SMALLEST[..index].iter().map(|small| small.centre.len() + small.other.len()).sum::<usize>();
+    let (luma, columns) = ((size.0 * size.1) as usize, size.0.div_ceil(2) as usize);
+    let chroma = columns * size.1.div_ceil(2) as usize;
+    let packed = |at: usize| frame(size, [at, at + luma, at + luma + chroma], (size.0 as usize, columns));
+    [packed(at), packed(at + centre.len())]
 }

@@ -1,8 +1,8 @@
-//! Document 01's rules for the denoiser with request 7's caps, sample by sample: no early exit, no in-bounds path, no
-//! running sums.
+//! Document 01's rules for the denoiser with request 7's caps and request 6's half samples, sample by sample: no early
+//! exit, no in-bounds path, no running sums.
 
-use super::Plane;
 use super::search::{NO_CEILING, sad};
+use super::{Plane, filtered};
 use crate::refusals::{Frame, cap, packed_size, planes};
 
 /// An accepted window.
@@ -12,6 +12,16 @@ pub struct Window<'a> {
     pub centre: usize,
     pub strength: u8,
 }
+
+/// How U and V are displaced: by whole samples, or by half samples, as request 6 has it.
+#[derive(Debug, Clone, Copy, PartialEq, Eq)]
+pub enum Chroma {
+    Whole,
+    Half,
+}
+
+/// A place in a plane, or a displacement: columns, then rows.
+pub type Pair = (i64, i64);
 
 /// What a build leaves; the sums and total weights are empty where the centre is only cropped.
 #[derive(Debug, Default, PartialEq, Eq)]
@@ -24,7 +34,7 @@ pub struct Built {
 
 // What the search found for one block of one frame.
 struct Match {
-    shift: (i64, i64),
+    shift: Pair,
     accepted: bool,
 }
 
@@ -34,21 +44,24 @@ pub fn weight(strength: u8, e: u8) -> u32 {
     16 * s / (s + u32::from(e) * u32::from(e))
 }
 
-pub fn build(w: &Window) -> Built {
+pub fn build(w: &Window, chroma: Chroma) -> Built {
+    match chroma {
+        Chroma::Whole => build_by(w, whole_samples),
+        Chroma::Half => build_by(w, half_samples),
+    }
+}
+
+/// The same over any rule for the displaced sample: that of plane k of a frame's three, at a place, from the
+/// displacement of the luma block that covers the place.
+pub fn build_by(w: &Window, displaced: impl Fn(&[Plane; 3], usize, Pair, Pair) -> u8) -> Built {
     let [width, height] = [0, 1].map(|k| w.frames[w.centre][k] as usize);
     let centre = w.planes(w.centre);
     let others: Vec<usize> = (0..w.frames.len()).filter(|&g| g != w.centre).collect();
     let cropped = others.is_empty() || w.strength == 0;
     let columns = width.div_ceil(16);
-    let blocks = columns * height.div_ceil(16);
-    let matches: Vec<Vec<Match>> = if cropped {
-        Vec::new()
-    } else {
-        let of_frame = |&g: &usize| (0..blocks).map(|b| found(&centre[0], &w.planes(g)[0], b)).collect();
-        others.iter().map(of_frame).collect()
-    };
-    let mut built =
-        Built { accepted: matches.iter().flatten().filter(|m| m.accepted).count() as u64, ..Built::default() };
+    let matches = if cropped { Vec::new() } else { w.matches(&others) };
+    let accepted = matches.iter().flatten().filter(|m| m.accepted).count() as u64;
+    let mut built = Built { accepted, ..Built::default() };
     for (k, plane) in centre.iter().enumerate() {
         let unit = if k == 0 { 16 } else { 8 };
         for (x, y) in places(plane) {
@@ -58,7 +71,11 @@ pub fn build(w: &Window) -> Built {
                 continue;
             }
             let block = y as usize / unit * columns + x as usize / unit;
-            let of_other = |(i, &g): (usize, &usize)| w.share(g, k, &matches[i][block], x, y, c);
+            let of_other = |(i, &g): (usize, &usize)| {
+                let m = &matches[i][block];
+                let sample = displaced(&w.planes(g), k, (x, y), m.shift);
+                (w.share(g, m, sample, c), sample)
+            };
             let shares: Vec<(u32, u8)> = others.iter().enumerate().map(of_other).collect();
             let total = 16 + shares.iter().map(|s| s.0).sum::<u32>();
             let sum = 16 * u32::from(c) + shares.iter().map(|s| s.0 * u32::from(s.1)).sum::<u32>();
@@ -80,17 +97,55 @@ impl Window<'_> {
         })
     }
 
-    // The weight of frame g's displaced sample, and that sample. The cap bounds the weight alone: whether the block is
-    // accepted, and where the sample lies, was found without it.
-    fn share(&self, g: usize, k: usize, m: &Match, x: i64, y: i64, c: u8) -> (u32, u8) {
-        let (dx, dy) = if k == 0 { m.shift } else { (m.shift.0 / 2, m.shift.1 / 2) };
-        let displaced = self.planes(g)[k].sample(x + dx, y + dy);
+    // Of each of these frames, block by block.
+    fn matches(&self, others: &[usize]) -> Vec<Vec<Match>> {
+        let centre = &self.planes(self.centre)[0];
+        let blocks = centre.width.div_ceil(16) * centre.height.div_ceil(16);
+        let of_frame = |&g: &usize| (0..blocks).map(|b| found(centre, &self.planes(g)[0], b)).collect();
+        others.iter().map(of_frame).collect()
+    }
+
+    // The weight of frame g's displaced sample. The cap bounds the weight alone: whether the block is accepted, and
+    // where the sample lies, was found without it.
+    fn share(&self, g: usize, m: &Match, displaced: u8, c: u8) -> u32 {
         let weight = weight(self.strength, displaced.abs_diff(c)).min(cap(&self.frames[g]));
-        (if m.accepted { weight } else { 0 }, displaced)
+        if m.accepted { weight } else { 0 }
     }
 }
 
-fn places(plane: &Plane) -> Vec<(i64, i64)> {
+// Y by the displacement, U and V by its halves, toward zero.
+fn whole_samples(planes: &[Plane; 3], k: usize, (x, y): Pair, (dx, dy): Pair) -> u8 {
+    let (dx, dy) = if k == 0 { (dx, dy) } else { (dx / 2, dy / 2) };
+    planes[k].sample(x + dx, y + dy)
+}
+
+// Y by the displacement, U and V by half samples.
+fn half_samples(planes: &[Plane; 3], k: usize, place: Pair, shift: Pair) -> u8 {
+    if k == 0 { whole_samples(planes, k, place, shift) } else { half_sample(&planes[k], place, shift) }
+}
+
+// Request 6: a component's half rounded down, and the six-tap row for what remains: 4 of 8 where the component is odd.
+fn halved(d: i64) -> (i64, usize) {
+    (d.div_euclid(2), if d.rem_euclid(2) == 1 { 4 } else { 0 })
+}
+
+// Copied where both components are even. Else filtered, across and then down over what the first pass gives.
+fn half_sample(plane: &Plane, (x, y): Pair, (dx, dy): Pair) -> u8 {
+    let ((right, across), (below, down)) = (halved(dx), halved(dy));
+    let (x, y) = (x + right, y + below);
+    if (across, down) == (0, 0) {
+        return plane.sample(x, y);
+    }
+    let first = |y: i64| filtered(across, around(|k| plane.sample(x + k, y)));
+    filtered(down, around(|k| first(y + k)))
+}
+
+// The six samples of a pass, from two before to three behind.
+fn around(sample: impl Fn(i64) -> u8) -> [u8; 6] {
+    std::array::from_fn(|k| sample(k as i64 - 2))
+}
+
+fn places(plane: &Plane) -> Vec<Pair> {
     let (width, height) = (plane.width as i64, plane.height as i64);
     (0..width * height).map(|i| (i % width, i / width)).collect()
 }
@@ -113,7 +168,7 @@ impl Block {
     }
 
     /// The samples of a plane under it, displaced.
-    pub fn samples(&self, plane: &Plane, (dx, dy): (i64, i64)) -> Vec<u8> {
+    pub fn samples(&self, plane: &Plane, (dx, dy): Pair) -> Vec<u8> {
         let columns = self.columns as i64;
         let at = |i: i64| plane.sample(self.x + i % columns + dx, self.y + i / columns + dy);
         (0..columns * self.rows as i64).map(at).collect()
@@ -127,7 +182,7 @@ impl Block {
 
 /// The block search over a cost as the diamond's, of a displacement (dx, dy): 33 comparisons from (0, 0) on. The last
 /// best and its SAD.
-pub fn block_search(mut cost: impl FnMut((i64, i64), u32) -> u32) -> ((i64, i64), u32) {
+pub fn block_search(mut cost: impl FnMut(Pair, u32) -> u32) -> (Pair, u32) {
     let mut best = ((0, 0), cost((0, 0), NO_CEILING));
     for step in [8, 4, 2, 1] {
         let (cx, cy) = best.0;
@@ -159,7 +214,11 @@ mod tests {
         let bytes: Vec<u8> = levels.iter().map(|l| l.0).collect();
         let frame = |(g, l): (usize, &(u8, u32))| [1, 1, g as u32, g as u32, g as u32, 1, 1, l.1];
         let frames: Vec<Frame> = levels.iter().enumerate().map(frame).collect();
-        build(&Window { bytes: &bytes, frames: &frames, centre: 0, strength })
+        let window = Window { bytes: &bytes, frames: &frames, centre: 0, strength };
+        // of one sample every displacement gives that sample
+        let [whole, half] = [Chroma::Whole, Chroma::Half].map(|chroma| build(&window, chroma));
+        assert_eq!(whole, half);
+        half
     }
 
     fn of(total: u32, sum: u32, sample: u8, accepted: u64) -> Built {
@@ -192,5 +251,48 @@ mod tests {
         let cropped = Built { output: vec![100; 3], ..Built::default() };
         assert_eq!(built(&[(100, 3)], 6), cropped);
         assert_eq!(built(&[(100, 3), (101, 0)], 0), cropped);
+    }
+
+    #[test]
+    fn halves_are_rounded_down() {
+        let table = [(-15, -8, 4), (-2, -1, 0), (-1, -1, 4), (0, 0, 0), (1, 0, 4), (2, 1, 0), (15, 7, 4)];
+        assert!(table.iter().all(|&(d, offset, row)| halved(d) == (offset, row)));
+    }
+
+    // 255 at (2, 2) and (3, 2) of 6 by 6, else 0.
+    #[test]
+    fn half_samples_by_hand() {
+        let bytes: Vec<u8> = (0..36).map(|i| if i == 14 || i == 15 { 255 } else { 0 }).collect();
+        let plane = Plane { bytes: &bytes, stride: 6, width: 6, height: 6 };
+        // the pair, less 16 and plus 3 of 128, is more than 255; the row below is 0
+        let table = [
+            ((0, 0), 255),
+            ((1, 0), 255),
+            ((2, 0), 255),
+            ((3, 0), 122),
+            ((-1, 0), 122),
+            ((0, 1), 153),
+            ((1, 1), 153),
+            ((1, -1), 153),
+            ((0, 3), 0),
+            ((1, -2), 0),
+            ((1, 5), 6),
+            ((4, 0), 0),
+        ];
+        for (shift, sample) in table {
+            assert_eq!(half_sample(&plane, (2, 2), shift), sample, "{shift:?}");
+        }
+    }
+
+    // Three columns that rise; beyond them the outer ones again.
+    #[test]
+    fn the_planes_own_edges_are_repeated() {
+        let plane = Plane { bytes: &[10, 20, 40], stride: 0, width: 3, height: 2 };
+        let at = |x: i64, dx: i64, dy: i64| half_sample(&plane, (x, 1), (dx, dy));
+        let first = |support| filtered(4, support);
+        assert_eq!(at(0, -1, 0), first([10, 10, 10, 10, 20, 40]));
+        assert_eq!(at(0, 1, -15), first([10, 10, 10, 20, 40, 40]));
+        assert_eq!(at(2, 1, 15), first([10, 20, 40, 40, 40, 40]));
+        assert_eq!([at(0, -15, 1), at(2, 15, 7), at(1, 0, 1)], [10, 40, 20]);
     }
 }
