@@ -5,11 +5,12 @@
 use crate::arnr::{ArnrConfig, ArnrPicture, build_arnr_altref};
 use crate::compare::content;
 use crate::encoder::I420Frame;
+use crate::halves::{by_the_originals, shifts};
 use crate::model::{self, Luma};
 use crate::motion_comp::{BILINEAR_FILTERS, SIXTAP_FILTERS, fetch_luma_mb_halo, sixtap_mb_luma};
 use crate::motion_search::{self as original, LumaRef};
 use crate::motion_vector::Mv;
-use crate::paper::denoiser::Window;
+use crate::paper::denoiser::{Built, Chroma, Window};
 use crate::paper::search::{NO_CEILING, sad};
 use crate::pictures::{by_account, cut};
 use crate::refusals::{Frame, MAX_CAP, packed_size};
@@ -63,6 +64,7 @@ pub fn run(clip: &[u8]) {
     beside_single_calls(&whole);
     within_allowances("moving texture", &whole[0]);
     within_allowances("noise", &Whole::of(NOISE, (WIDTH, HEIGHT)));
+    beside_whole_samples();
     count_rows(clip);
 }
 
@@ -591,6 +593,68 @@ fn builder((width, height): (usize, usize), count: usize, step: usize) -> [f64; 
     let accepted = built.accepted as usize * 100 / blocks;
     let name = format!("builder {width}x{height}, {count} frames, {accepted}%");
     measure(&name, || _ = ours(), || _ = black_box(rust()))
+}
+
+/// Where the pictures of a window lie, down and across alike: each other one an odd way from the middle one, or all at
+/// one place; what the builder with half samples may take of the time of the one without.
+const PANS: [(&str, [usize; 7], f64); 3] = [
+    ("odd, by 1", [5, 7, 5, 6, 7, 5, 7], 1.30),
+    ("odd, by 1 to 5", [1, 3, 5, 6, 7, 9, 11], 1.30),
+    ("still", [6; 7], 1.05),
+];
+
+// The model alone: the builder that moves chroma by half samples, in the first columns, beside the one that moves it by
+// whole samples, at strength 3.
+fn beside_whole_samples() {
+    println!("the model's builder with half samples beside the one with whole samples, {WIDTH}x{HEIGHT}, 7 frames,");
+    println!("strength 3; ratio = the latter's time / the former's:");
+    print_head("half samples", "whole samples");
+    for (name, places, limit) in PANS {
+        let bytes = panned((WIDTH, HEIGHT), &places);
+        let frames = packed_frames((WIDTH, HEIGHT), places.len());
+        let window = Window { bytes: &bytes, frames: &frames, centre: 3, strength: 3 };
+        let as_told = |d: i32| (d % 2 != 0) == (name != "still");
+        assert!(shifts(&window).iter().all(|&(dx, dy)| as_told(dx) && as_told(dy)), "{name}");
+        let [half, whole] = beside_each_other(name, &window);
+        let [least, median] = [0, 1].map(|k| half[k] / whole[k]);
+        println!("  half samples take {least:.3} of the time, least, and {median:.3}, median; limit {limit:.2}");
+    }
+}
+
+type OverNumbers = fn(&[u8], &[u32], usize, u8, model::Lent) -> model::Build;
+
+// Both builders, each with slices of its own, once their answers are those of the originals and of their copy; least
+// and median of each.
+fn beside_each_other(name: &str, window: &Window) -> [[f64; 2]; 2] {
+    let (numbers, config) = (window.frames.concat(), ArnrConfig::new(window.strength));
+    let run = |call: OverNumbers, Built { output, sums, weights, accepted }: &mut Built| {
+        let lent = model::Lent { output, sums, weights };
+        let got = call(black_box(window.bytes), black_box(&numbers), window.centre, window.strength, lent);
+        *accepted = black_box(got).accepted.into();
+    };
+    let first = |call: OverNumbers, chroma: Chroma| {
+        let expected = by_the_originals(window, &config, chroma);
+        let samples = expected.output.len();
+        let mut built =
+            Built { output: vec![0; samples], sums: vec![0; samples], weights: vec![0; samples], accepted: 0 };
+        run(call, &mut built);
+        assert!(built == expected, "{name}");
+        built
+    };
+    let mut half = first(model::build_half_sample, Chroma::Half);
+    let mut whole = first(model::build_from_numbers, Chroma::Whole);
+    let name = format!("{name}, {} accepted blocks", half.accepted);
+    measured(&name, || run(model::build_half_sample, &mut half), || run(model::build_from_numbers, &mut whole))
+}
+
+// The pictures of a texture with noise, packed, from these places on, down and across alike; chroma from half of them.
+fn panned((width, height): (usize, usize), places: &[usize]) -> Vec<u8> {
+    let plane = |g: usize, k: usize, place: usize| {
+        let (columns, rows) = if k == 0 { (width, height) } else { (width.div_ceil(2), height.div_ceil(2)) };
+        content::bytes(5, (100 * k + 257 * place + (g << 16)) as u64, columns * rows, columns)
+    };
+    let picture = |(g, &place): (usize, &usize)| [plane(g, 0, place), plane(g, 1, place / 2), plane(g, 2, place / 2)];
+    places.iter().enumerate().flat_map(picture).flatten().collect()
 }
 
 // The same searches and windows, and those of the sample clip.
