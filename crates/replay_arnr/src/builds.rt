@@ -1,4 +1,4 @@
-// One record: the builder called in both forms, its answers and the lent slices compared.
+// One record: the builder called, in both forms or with half samples, its answers and the lent slices compared.
 use crate::parts::bytes_agree;
 use crate::parts::least;
 use crate::parts::loaded;
@@ -11,6 +11,14 @@ use crate::parts::words_agree;
 use denoiser::BuildAnswer;
 use weights::ArnrConfig;
 use window::Refusal;
+
+// How a record's window is built: over numbers, over records of the same frames, or over numbers with chroma moved by half
+// samples.
+enum Form {
+    Numbers,
+    Records,
+    HalfSamples,
+}
 
 fn config_of(record: &[u8; 144]) -> ArnrConfig {
     let strength = (number(record, 6) % 256) as u8;
@@ -73,9 +81,8 @@ fn hold(record: &[u8; 144], payload: &[u8], output: &[u8], sums: &[u32], weights
         && words_agree(weights, part(payload, from + samples + entries, entries))
 }
 
-// The builder over numbers, or over records of the same frames.
 fn built(
-    records: bool,
+    form: Form,
     bytes: &[u8],
     numbers: &[u32],
     centre: usize,
@@ -84,18 +91,24 @@ fn built(
     sums: &mut [u32],
     weights: &mut [u32],
 ) -> BuildAnswer {
-    if records {
-        let count = window::frame_count(numbers);
-        let frames = framelist::records_of(numbers);
-        framelist::build_of(bytes, frames, count, centre, config, output, sums, weights)
-    } else {
-        arnr::build_from_numbers(bytes, numbers, centre, config, output, sums, weights)
+    match form {
+        Form::Numbers => {
+            arnr::build_from_numbers(bytes, numbers, centre, config, output, sums, weights)
+        }
+        Form::Records => {
+            let count = window::frame_count(numbers);
+            let frames = framelist::records_of(numbers);
+            framelist::build_of(bytes, frames, count, centre, config, output, sums, weights)
+        }
+        Form::HalfSamples => {
+            arnr::build_half_sample(bytes, numbers, centre, config, output, sums, weights)
+        }
     }
 }
 
 // The call: its answer, then each lent slice.
 fn builds(
-    records: bool,
+    form: Form,
     bytes: &[u8],
     numbers: &[u32],
     record: &[u8; 144],
@@ -106,21 +119,12 @@ fn builds(
 ) -> bool {
     let centre = number(record, 5);
     let config = config_of(record);
-    let answer = built(
-        records,
-        bytes,
-        numbers,
-        centre,
-        config,
-        output,
-        sums,
-        weights,
-    );
+    let answer = built(form, bytes, numbers, centre, config, output, sums, weights);
     has_answer(record, answer) && hold(record, payload, output, sums, weights)
 }
 
 // The same with slices of the lengths that the record has.
-fn agrees_by(records: bool, pictures: &[u8], payload: &[u8], record: &[u8; 144]) -> bool {
+fn agrees_by(form: Form, pictures: &[u8], payload: &[u8], record: &[u8; 144]) -> bool {
     let mut output = old_bytes();
     let mut sums = old_words();
     let mut weights = old_words();
@@ -130,7 +134,7 @@ fn agrees_by(records: bool, pictures: &[u8], payload: &[u8], record: &[u8; 144])
     let s = least(number(record, 9), 40000);
     let w = least(number(record, 10), 40000);
     builds(
-        records,
+        form,
         part(pictures, 0, number(record, 2)),
         &numbers[..given],
         record,
@@ -143,7 +147,12 @@ fn agrees_by(records: bool, pictures: &[u8], payload: &[u8], record: &[u8; 144])
 
 // Both forms, each with slices of its own: the answer and every slice are the stored ones, so those of one form are those of the other.
 pub(crate) fn agrees(pictures: &[u8], payload: &[u8], record: &[u8; 144]) -> bool {
-    let over_numbers = agrees_by(false, pictures, payload, record);
-    let over_records = agrees_by(true, pictures, payload, record);
+    let over_numbers = agrees_by(Form::Numbers, pictures, payload, record);
+    let over_records = agrees_by(Form::Records, pictures, payload, record);
     over_numbers && over_records
+}
+
+// The builder with half samples.
+pub(crate) fn agrees_half(pictures: &[u8], payload: &[u8], record: &[u8; 144]) -> bool {
+    agrees_by(Form::HalfSamples, pictures, payload, record)
 }
