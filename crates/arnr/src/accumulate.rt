@@ -369,11 +369,11 @@ fn blend_half(
         (shareBy (now (curve .entry)) (packedPicture (f .width) (f .height) (now (out .entry)) k) (halfSample d (pictureOf
         (now (bytes .entry)) f k)) x y)) (now (weights .entry)) (now (weights .exit)) ⌝ }
 {
-    let p = plane_of(f, k);
+    let q = plane_of(f, k);
     let at = offset_of(f.width as usize, f.height as usize, k);
     let c = block_in(k, b);
-    let block = half::block(bytes, p, c.x, c.y, d);
-    blend_square(&block, p, c, curve, at, out, sums, weights);
+    let block = half::block(bytes, q, c.x, c.y, d);
+    blend_square(&block, q, c, curve, at, out, sums, weights);
 }
 
 // Whether a block is filtered in U and V: by half samples, where a component of its displacement is odd.
