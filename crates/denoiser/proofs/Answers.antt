@@ -21,7 +21,7 @@ use Rattle.window.proofs.Built as window
 use Rattle.denoiser.specs.declared.Built.{Built}
 use Rattle.denoiser.specs.declared.BuildAnswer.{BuildAnswer}
 use Rattle.denoiser.specs.declared.BuildAnswer.the-variants.{Done, Refused}
-use Rattle.denoiser.specs.Window.{Other, Scene, Rule}
+use Rattle.denoiser.specs.Window.{Scene, Rule}
 use Rattle.denoiser.specs.declared.Choice.{Choice}
 use Rattle.denoiser.specs.Chroma.{ruleOf}
 use Rattle.denoiser.specs.Demand.{Held, Demand3}

@@ -36,7 +36,7 @@ use Rattle.denoiser.specs.Internal.{stepBest, Reach, Short}
 use Rattle.denoiser.specs.Window.{Picture, Other, Scene, Rule, gate, centreAt, shareOf, totalAt, sumAt, acceptedIn, acceptedBlocks}
 use Rattle.denoiser.specs.Window.{Window, denoisedAt, displacementOf, sadAccepted, blockAccepted, displacedAt, arnrRule, plainRule}
 use Rattle.denoiser.specs.declared.Choice.{Choice}
-use Rattle.denoiser.specs.Chroma.{sampleIn, chosenSample, ruleOf, wholeSamples, halfRule}
+use Rattle.denoiser.specs.Chroma.{chosenSample, ruleOf, wholeSamples, halfRule}
 use Rattle.denoiser.specs.Pictures.{pictureOf, otherOf, othersOf}
 use Rattle.denoiser.specs.Demand.{Held}
 use Rattle.denoiser.specs.Build.{Request, BuildInput, givenOf, centreFrame, sceneOf, windowOf, cropped, builtOf, outcomeOf, BuildBy}

@@ -2,16 +2,13 @@
 use mathlib.Core.Path.{_≡_, refl, sym, ap, _∙_}
 use mathlib.Core.Bool.{Bool, true, false, _&&_}
 use mathlib.Core.List.{List}
-use Prim.Native.Nat.{ℕ, zero, suc, _+_, _-_, _*_, _/_, _%_, _≤_, _<_, min}
+use Prim.Native.Nat.{ℕ, zero, suc, _+_, _-_, _*_, _/_, _%_, _≤_, _<_}
 use native.Mathlib.Decide.{ℕ-discrete}
 use native.Mathlib.Omega.{arith}
 use borrow.Author.Tests.{ltb-false}
-use lib.Dec.{ltb}
 use lib.IntN.{ℤ, pos, natAbs, _+ℤ_, _-ℤ_, _*ℤ_}
 use lib.ListN.{getD}
-use lib.Signed.{quotZ}
-use Rattle.laws.specs.Signed.{above, below, floorDiv}
-use Rattle.laws.proofs.Signed.{same, self, sum, diff, times, quot, floor, one-zero, Less, less-of, less-pos, less-sum, less-diff}
+use Rattle.laws.proofs.Signed.{same, self, sum, diff, times, quot, floor, one-zero, less-of, less-pos, less-sum, less-diff}
 use Rattle.laws.specs.Tabulate.{tabulate}
 use Rattle.laws.proofs.Tabulate.{tabulate-same, getD-tabulate}
 use Rattle.prediction.specs.Vector.{wholeOf, fractionOf}

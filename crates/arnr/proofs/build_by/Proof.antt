@@ -1,7 +1,4 @@
 -- `arnr::build_by` meets its contract. Assumes nothing.
-use mathlib.Core.Path.{_≡_, refl, sym, ap, _∙_}
-use Prim.Native.Nat.{ℕ, _<_}
-use lib.ListN.{getD}
 use Rattle.denoiser.specs.Build.{BuildInput, asked}
 use Rattle.denoiser.proofs.Answers.{refused-is, legal, lent, done-is}
 use native.Mathlib.Omega.{arith}

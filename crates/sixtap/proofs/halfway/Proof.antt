@@ -1,6 +1,6 @@
 -- `halfway` meets its contract: the filtered sample of row 4. Assumes nothing.
 use borrow.Author.Needs.{needs}
-use mathlib.Core.Path.{_≡_, _∙_}
+use mathlib.Core.Path.{_∙_}
 use Rattle.filters.specs.Internal.{filteredList}
 use Rattle.sixtap.proofs.Sizes.{sample-law}
 use Rattle.sixtap.proofs.halfway.Statement.{statement}

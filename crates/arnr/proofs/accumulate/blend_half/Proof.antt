@@ -1,6 +1,5 @@
 -- `arnr::accumulate::blend_half` meets its contract: what the filtered block adds is what the half samples add. Assumes nothing.
-use mathlib.Core.Path.{_≡_, ap, _∙_}
-use Prim.Native.Nat.{ℕ, _+_, _*_, _≤_, _<_}
+use Prim.Native.Nat.{_≤_, _<_}
 use native.Mathlib.Nat.{le-trans}
 use Rattle.window.specs.Layout.{sideOf, offsetOf}
 use Rattle.denoiser.specs.Grid.{blockIn}

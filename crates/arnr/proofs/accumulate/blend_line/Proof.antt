@@ -4,11 +4,10 @@ use mathlib.Core.Path.{_≡_, ap, _∙_, refl, sym}
 use Prim.Native.Nat.{ℕ, _+_, _-_, _*_, _^_, _≤_, _<_}
 use native.Mathlib.Nat.{add-sub-cancel-left}
 use lib.IntN.{pos}
-use lib.ListN.{length, getD, take, drop}
+use lib.ListN.{length, getD, drop}
 use lib.Seq.{getD-drop}
 use Rattle.laws.proofs.Slices.{mid-long, mid-all}
 use Rattle.prediction.specs.Plane.{sampleAt}
-use Rattle.denoiser.specs.declared.Block.{Block}
 use Rattle.denoiser.specs.Internal.{packedPlane, blockSamples}
 use Rattle.denoiser.proofs.Place.{placed-span, share-is, term-is}
 use Rattle.denoiser.proofs.Planes.{row-below, packed-at}

@@ -1,8 +1,7 @@
 -- `arnr::accumulate::blend_square` meets its contract. The loop's invariant: the first r rows of the block are added. Assumes nothing.
-use mathlib.Core.Path.{_≡_, ap, _∙_, refl, sym}
-use Prim.Native.Nat.{ℕ, _+_, _*_, _-_, _≤_, _<_}
+use mathlib.Core.Path.{_≡_, sym}
+use Prim.Native.Nat.{ℕ, _+_, _*_, _-_, _≤_}
 use lib.IntN.{pos}
-use lib.ListN.{length, getD}
 use Rattle.prediction.specs.Plane.{sampleAt}
 use Rattle.denoiser.specs.Window.{gate}
 use Rattle.denoiser.specs.Internal.{Lent, Slack, Placed, between, within, shareBy, termBy, packedPlane, blockSamples}

@@ -1,6 +1,6 @@
 -- `arnr::half::block` meets its contract: the two passes over the samples around the block. Assumes nothing.
 use mathlib.Core.List.{List}
-use mathlib.Core.Path.{_≡_, ap, _∙_}
+use mathlib.Core.Path.{ap, _∙_}
 use Prim.Native.Nat.{ℕ}
 use borrow.Author.Needs.{needs}
 use mir.Facts.{toZ-ofZ}

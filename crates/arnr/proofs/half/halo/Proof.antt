@@ -1,8 +1,8 @@
 -- `arnr::half::halo` meets its contract: row after row. Assumes nothing.
 use native.Mathlib.Omega.{arith}
 use borrow.Author.Needs.{needs}
-use Prim.Native.Nat.{ℕ, _≤_, _-_, _+_, _*_}
-use mathlib.Core.Path.{_≡_, refl}
+use Prim.Native.Nat.{_≤_, _-_, _*_}
+use mathlib.Core.Path.{refl}
 use Rattle.laws.specs.Internal.{Filling}
 use Rattle.laws.proofs.Tabulate.{fill-start, fill-end, fill-at}
 use Rattle.prediction.specs.Plane.{sampleAt}

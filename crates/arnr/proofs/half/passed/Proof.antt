@@ -2,7 +2,6 @@
 use borrow.Author.Needs.{needs}
 use mathlib.Core.Path.{_≡_, _∙_}
 use native.Mathlib.Omega.{arith}
-use Prim.Native.Nat.{ℕ}
 use Rattle.prediction.specs.Filter.{sixtap}
 use Rattle.filters.specs.Internal.{filteredList}
 use Rattle.filters.proofs.Passes.{kept-is}

@@ -1,9 +1,8 @@
 -- `arnr::half::row` meets its contract. Assumes nothing.
 use native.Mathlib.Omega.{arith}
 use mathlib.Core.Path.{_≡_}
-use Prim.Native.Nat.{_≤_, _*_, _%_}
+use Prim.Native.Nat.{_≤_, _%_}
 use lib.IntN.{ℤ, pos, natAbs, _-ℤ_, _*ℤ_}
-use lib.Signed.{shrZ}
 use mir.Syntax.{w32}
 use mir.Val.{SFits}
 use mir.Facts.{toZ-ofZ}
