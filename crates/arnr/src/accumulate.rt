@@ -2,6 +2,7 @@
 use crate::half;
 use crate::sad;
 use crate::search;
+use crate::three;
 use denoiser::Block;
 use denoiser::Choice;
 use denoiser::Displacement;
@@ -10,19 +11,22 @@ use denoiser::PlaneNumbers;
 use prediction::inverse_transform;
 use window::Frame;
 ghost use mathlib.Core.Path.{_≡_};
+ghost use mathlib.Core.Bool.{true};
 ghost use Prim.Native.Nat.{_+_, _-_, _*_, _/_, _<_, _≤_, min};
 ghost use lib.Dec.{eqb};
+ghost use lib.IntN.{pos};
 ghost use lib.ListN.{length, getD};
 ghost use Rattle.laws.specs.Sums.{sumBelow, sumOver};
 ghost use Rattle.prediction.specs.Samples.{distance};
 ghost use Rattle.prediction.specs.Plane.{sampleAt};
+ghost use Rattle.prediction.specs.Prediction.{squareOf};
 ghost use Rattle.window.specs.Layout.{sideOf, offsetOf, packedSize};
 ghost use Rattle.denoiser.specs.Grid.{gridBlock, gridSide, blockIn, unitOf};
 ghost use Rattle.denoiser.specs.Search.{displacedBy, displacementIn};
-ghost use Rattle.denoiser.specs.Chroma.{halfSample, sampleIn};
-ghost use Rattle.denoiser.specs.Window.{gate, costOf, displacementOf, sadAccepted, blockAccepted, acceptedIn};
+ghost use Rattle.denoiser.specs.Chroma.{halfSample, sampleIn, chosenAccepts};
+ghost use Rattle.denoiser.specs.Window.{gate, costOf, displacementOf, sadAccepted, acceptedIn};
 ghost use Rattle.denoiser.specs.Pictures.{pictureOf, othersOf};
-ghost use Rattle.denoiser.specs.Internal.{Fits, Whole, Short, Span, Lies, Lent, Slack, Light, Frames, Measured, Raised, Placed, Spread, within, between, rowShare, rowTerm, shareBy, termBy, planeIn, packedPlane, numbersOf, packedPicture, packedScene, blockSamples, filteredIn, curveRule, curveShare, curveTerm, cappedCurve, otherShare, otherTerm, otherBlocks};
+ghost use Rattle.denoiser.specs.Internal.{Fits, Whole, Short, Span, Lies, Lent, Slack, Light, Frames, Measured, Raised, Placed, Spread, within, between, rowShare, rowTerm, shareBy, termBy, planeIn, packedPlane, numbersOf, packedPicture, packedScene, blockSamples, filteredIn, chromaPasses, curveRule, curveShare, curveTerm, cappedCurve, otherShare, otherTerm, otherBlocks};
 
 // The weight of a displaced sample against the centre's.
 fn share(curve: &[u32; 256], d: u8, c: u8) -> u32
@@ -210,7 +214,7 @@ fn grid_block(w: usize, h: usize, i: usize, j: usize) -> Block
 }
 
 // What a block covers in a plane.
-fn block_in(k: usize, b: Block) -> Block
+pub(crate) fn block_in(k: usize, b: Block) -> Block
     requires { ⌜ (b .columns ≤ 16) × (b .rows ≤ 16) ⌝ }
     ensures { λ r. ⌜ r ≡ blockIn k b ⌝ }
 {
@@ -226,7 +230,7 @@ fn block_in(k: usize, b: Block) -> Block
 }
 
 // A displacement in a plane: in U and V it is halved toward zero.
-fn displacement_in(k: usize, d: Displacement) -> Displacement
+pub(crate) fn displacement_in(k: usize, d: Displacement) -> Displacement
     requires { ⌜ Short d ⌝ }
     ensures { λ r. ⌜ (r ≡ displacementIn k d) × Short r ⌝ }
 {
@@ -344,36 +348,46 @@ fn blend_square(
     }
 }
 
-// One block of a frame in U or V at the half samples of its displacement: filtered once, and added.
+// The half samples of a block of a frame in U or V: a block of 8 by 8.
+fn filtered(bytes: &[u8], f: Frame, k: usize, b: Block, d: Displacement) -> [u8; 64]
+    requires { ⌜ (k < 3) × Whole (now bytes) f ⌝ }
+    requires { ⌜ Lies b (f .width) (f .height) ⌝ }
+    requires { ⌜ Short d ⌝ }
+    ensures { λ r. ⌜ r ≡ squareOf 8 (pos (blockIn k b .x)) (pos (blockIn k b .y)) (halfSample d (pictureOf (now (bytes .entry)) f k)) ⌝ }
+{
+    let q = plane_of(f, k);
+    let c = block_in(k, b);
+    half::block(bytes, q, c.x, c.y, d)
+}
+
+// One block of a frame in U or V at its filtered samples, which stand in a block of 8 by 8.
 fn blend_half(
-    bytes: &[u8],
+    block: &[u8],
     f: Frame,
     k: usize,
     b: Block,
-    d: Displacement,
     curve: &[u32; 256],
     out: &[u8],
     sums: &mut [u32],
     weights: &mut [u32],
 )
-    requires { ⌜ (0 < k) × (k < 3) × Whole (now bytes) f ⌝ }
+    requires { ⌜ (0 < k) × (k < 3) × (length (now block) ≡ 64) ⌝ }
+    requires { ⌜ (0 < f .width) × (f .width ≤ 16383) × (f .height ≤ 16383) ⌝ }
     requires { ⌜ Lies b (f .width) (f .height) ⌝ }
-    requires { ⌜ Short d ⌝ }
     requires { ⌜ Lent (packedSize (f .width) (f .height)) (now out) (now sums) (now weights) ⌝ }
     requires { ⌜ Light (now curve) ⌝ }
     requires { ⌜ Slack 2 (now sums) (now weights) ⌝ }
     ensures { λ _. ⌜ Placed (offsetOf k (f .width) (f .height)) (sideOf k (f .width)) (sideOf k (f .height)) (λ x y. gate (within (blockIn k b) x y)
-        (termBy (now (curve .entry)) (packedPicture (f .width) (f .height) (now (out .entry)) k) (halfSample d (pictureOf
-        (now (bytes .entry)) f k)) x y)) (now (sums .entry)) (now (sums .exit)) ⌝ }
+        (termBy (now (curve .entry)) (packedPicture (f .width) (f .height) (now (out .entry)) k) (blockSamples (now (block .entry))
+        (blockIn k b .x) (blockIn k b .y)) x y)) (now (sums .entry)) (now (sums .exit)) ⌝ }
     ensures { λ _. ⌜ Placed (offsetOf k (f .width) (f .height)) (sideOf k (f .width)) (sideOf k (f .height)) (λ x y. gate (within (blockIn k b) x y)
-        (shareBy (now (curve .entry)) (packedPicture (f .width) (f .height) (now (out .entry)) k) (halfSample d (pictureOf
-        (now (bytes .entry)) f k)) x y)) (now (weights .entry)) (now (weights .exit)) ⌝ }
+        (shareBy (now (curve .entry)) (packedPicture (f .width) (f .height) (now (out .entry)) k) (blockSamples (now (block .entry))
+        (blockIn k b .x) (blockIn k b .y)) x y)) (now (weights .entry)) (now (weights .exit)) ⌝ }
 {
     let q = plane_of(f, k);
     let at = offset_of(f.width as usize, f.height as usize, k);
     let c = block_in(k, b);
-    let block = half::block(bytes, q, c.x, c.y, d);
-    blend_square(&block, q, c, curve, at, out, sums, weights);
+    blend_square(block, q, c, curve, at, out, sums, weights);
 }
 
 // Whether a block is filtered in U and V: by half samples, where a component of its displacement is odd.
@@ -387,13 +401,12 @@ fn filters(d: Displacement, choice: Choice) -> bool
     false
 }
 
-// One block of a frame at its displacement, in all three planes.
-fn blend_planes(
+// One block of a frame at its displacement, in all three planes: U and V are copied.
+fn blend_copied(
     bytes: &[u8],
     f: Frame,
     b: Block,
     d: Displacement,
-    choice: Choice,
     curve: &[u32; 256],
     out: &[u8],
     sums: &mut [u32],
@@ -406,20 +419,92 @@ fn blend_planes(
     requires { ⌜ Light (now curve) ⌝ }
     requires { ⌜ Slack 4 (now sums) (now weights) ⌝ }
     ensures { λ _. ⌜ Spread (f .width) (f .height) (λ k x y. gate (within (blockIn k b) x y) (termBy (now (curve .entry)) (packedPicture (f .width)
-        (f .height) (now (out .entry)) k) (sampleIn (choice .«half_sample») k d (pictureOf (now (bytes .entry)) f k)) x y)) (now (sums .entry))
+        (f .height) (now (out .entry)) k) (displacedBy (displacementIn k d) (pictureOf (now (bytes .entry)) f k)) x y)) (now (sums .entry))
         (now (sums .exit)) ⌝ }
     ensures { λ _. ⌜ Spread (f .width) (f .height) (λ k x y. gate (within (blockIn k b) x y) (shareBy (now (curve .entry)) (packedPicture (f .width)
-        (f .height) (now (out .entry)) k) (sampleIn (choice .«half_sample») k d (pictureOf (now (bytes .entry)) f k)) x y)) (now (weights .entry))
+        (f .height) (now (out .entry)) k) (displacedBy (displacementIn k d) (pictureOf (now (bytes .entry)) f k)) x y)) (now (weights .entry))
         (now (weights .exit)) ⌝ }
 {
     blend_in(bytes, f, 0, b, d, curve, out, sums, weights);
+    blend_in(bytes, f, 1, b, d, curve, out, sums, weights);
+    blend_in(bytes, f, 2, b, d, curve, out, sums, weights);
+}
+
+// The same with U and V filtered: their half samples stand in two blocks of 8 by 8.
+fn blend_filtered(
+    bytes: &[u8],
+    f: Frame,
+    b: Block,
+    d: Displacement,
+    u: &[u8],
+    v: &[u8],
+    curve: &[u32; 256],
+    out: &[u8],
+    sums: &mut [u32],
+    weights: &mut [u32],
+)
+    requires { ⌜ Whole (now bytes) f ⌝ }
+    requires { ⌜ Lies b (f .width) (f .height) ⌝ }
+    requires { ⌜ Short d ⌝ }
+    requires { ⌜ now u ≡ squareOf 8 (pos (blockIn 1 b .x)) (pos (blockIn 1 b .y)) (halfSample d (pictureOf (now bytes) f 1)) ⌝ }
+    requires { ⌜ now v ≡ squareOf 8 (pos (blockIn 2 b .x)) (pos (blockIn 2 b .y)) (halfSample d (pictureOf (now bytes) f 2)) ⌝ }
+    requires { ⌜ Lent (packedSize (f .width) (f .height)) (now out) (now sums) (now weights) ⌝ }
+    requires { ⌜ Light (now curve) ⌝ }
+    requires { ⌜ Slack 4 (now sums) (now weights) ⌝ }
+    ensures { λ _. ⌜ Spread (f .width) (f .height) (λ k x y. gate (within (blockIn k b) x y) (termBy (now (curve .entry)) (packedPicture (f .width)
+        (f .height) (now (out .entry)) k) (sampleIn true k d (pictureOf (now (bytes .entry)) f k)) x y)) (now (sums .entry)) (now (sums .exit)) ⌝ }
+    ensures { λ _. ⌜ Spread (f .width) (f .height) (λ k x y. gate (within (blockIn k b) x y) (shareBy (now (curve .entry)) (packedPicture (f .width)
+        (f .height) (now (out .entry)) k) (sampleIn true k d (pictureOf (now (bytes .entry)) f k)) x y)) (now (weights .entry))
+        (now (weights .exit)) ⌝ }
+{
+    blend_in(bytes, f, 0, b, d, curve, out, sums, weights);
+    blend_half(u, f, 1, b, curve, out, sums, weights);
+    blend_half(v, f, 2, b, curve, out, sums, weights);
+}
+
+// One block of a frame at its displacement, in all three planes, where U and V pass. The number of accepted blocks, 0 or 1.
+// Whether a block is filtered is asked once, and a block is filtered once, before it is measured.
+fn blend_planes(
+    bytes: &[u8],
+    f: Frame,
+    b: Block,
+    d: Displacement,
+    choice: Choice,
+    curve: &[u32; 256],
+    out: &[u8],
+    sums: &mut [u32],
+    weights: &mut [u32],
+) -> u32
+    requires { ⌜ Whole (now bytes) f ⌝ }
+    requires { ⌜ Lies b (f .width) (f .height) ⌝ }
+    requires { ⌜ Short d ⌝ }
+    requires { ⌜ Lent (packedSize (f .width) (f .height)) (now out) (now sums) (now weights) ⌝ }
+    requires { ⌜ Light (now curve) ⌝ }
+    requires { ⌜ Slack 4 (now sums) (now weights) ⌝ }
+    ensures { λ r. ⌜ r ≡ gate (chromaPasses choice (packedPicture (f .width) (f .height) (now (out .entry))) (pictureOf (now (bytes .entry)) f) b d) 1 ⌝ }
+    ensures { λ _. ⌜ Spread (f .width) (f .height) (λ k x y. gate (chromaPasses choice (packedPicture (f .width) (f .height) (now (out .entry)))
+        (pictureOf (now (bytes .entry)) f) b d) (gate (within (blockIn k b) x y) (termBy (now (curve .entry)) (packedPicture (f .width)
+        (f .height) (now (out .entry)) k) (sampleIn (choice .«half_sample») k d (pictureOf (now (bytes .entry)) f k)) x y))) (now (sums .entry))
+        (now (sums .exit)) ⌝ }
+    ensures { λ _. ⌜ Spread (f .width) (f .height) (λ k x y. gate (chromaPasses choice (packedPicture (f .width) (f .height) (now (out .entry)))
+        (pictureOf (now (bytes .entry)) f) b d) (gate (within (blockIn k b) x y) (shareBy (now (curve .entry)) (packedPicture (f .width)
+        (f .height) (now (out .entry)) k) (sampleIn (choice .«half_sample») k d (pictureOf (now (bytes .entry)) f k)) x y))) (now (weights .entry))
+        (now (weights .exit)) ⌝ }
+{
     if filters(d, choice) {
-        blend_half(bytes, f, 1, b, d, curve, out, sums, weights);
-        blend_half(bytes, f, 2, b, d, curve, out, sums, weights);
-    } else {
-        blend_in(bytes, f, 1, b, d, curve, out, sums, weights);
-        blend_in(bytes, f, 2, b, d, curve, out, sums, weights);
+        let u = filtered(bytes, f, 1, b, d);
+        let v = filtered(bytes, f, 2, b, d);
+        if three::squares_pass(&u, &v, f, b, choice, out) {
+            blend_filtered(bytes, f, b, d, &u, &v, curve, out, sums, weights);
+            return 1;
+        }
+        return 0;
     }
+    if three::copies_pass(bytes, f, b, d, choice, out) {
+        blend_copied(bytes, f, b, d, curve, out, sums, weights);
+        return 1;
+    }
+    0
 }
 
 // The last best of the block in row i and column j of the grid.
@@ -435,7 +520,7 @@ fn motion_at(bytes: &[u8], f: Frame, i: usize, j: usize, out: &[u8]) -> Motion
     search::block_search(bytes, p, b, out)
 }
 
-// One block of a frame: searched, and where it is accepted added in all three planes. The number of accepted blocks, 0 or 1.
+// One block of a frame: searched, and where luma passes, and U and V by the choice, added in all three planes. The number of accepted blocks, 0 or 1.
 fn blend_at(
     bytes: &[u8],
     f: Frame,
@@ -452,7 +537,7 @@ fn blend_at(
     requires { ⌜ Lent (packedSize (f .width) (f .height)) (now out) (now sums) (now weights) ⌝ }
     requires { ⌜ Light (now curve) ⌝ }
     requires { ⌜ Slack 4 (now sums) (now weights) ⌝ }
-    ensures { λ r. ⌜ r ≡ gate (blockAccepted (packedScene (f .width) (f .height) (now (out .entry))) (pictureOf (now (bytes .entry)) f) i j) 1 ⌝ }
+    ensures { λ r. ⌜ r ≡ gate (chosenAccepts choice (packedScene (f .width) (f .height) (now (out .entry))) (pictureOf (now (bytes .entry)) f) i j) 1 ⌝ }
     ensures { λ _. ⌜ Spread (f .width) (f .height) (λ k x y. gate (eqb (y / unitOf k) i) (gate (eqb (x / unitOf k) j) (curveTerm choice (now (curve .entry))
         (packedScene (f .width) (f .height) (now (out .entry))) (pictureOf (now (bytes .entry)) f) k x y))) (now (sums .entry)) (now (sums .exit)) ⌝ }
     ensures { λ _. ⌜ Spread (f .width) (f .height) (λ k x y. gate (eqb (y / unitOf k) i) (gate (eqb (x / unitOf k) j) (curveShare choice (now (curve .entry))
@@ -472,8 +557,7 @@ fn blend_at(
             out,
             sums,
             weights,
-        );
-        1
+        )
     } else {
         0
     }
@@ -495,7 +579,7 @@ fn blend_grid_row(
     requires { ⌜ Lent (packedSize (f .width) (f .height)) (now out) (now sums) (now weights) ⌝ }
     requires { ⌜ Light (now curve) ⌝ }
     requires { ⌜ Slack 5 (now sums) (now weights) ⌝ }
-    ensures { λ r. ⌜ (r ≡ sumBelow (λ j. gate (blockAccepted (packedScene (f .width) (f .height) (now (out .entry))) (pictureOf (now (bytes .entry)) f) i j) 1)
+    ensures { λ r. ⌜ (r ≡ sumBelow (λ j. gate (chosenAccepts choice (packedScene (f .width) (f .height) (now (out .entry))) (pictureOf (now (bytes .entry)) f) i j) 1)
         (gridSide (f .width))) × (r ≤ gridSide (f .width)) ⌝ }
     ensures { λ _. ⌜ Spread (f .width) (f .height) (λ k x y. gate (eqb (y / unitOf k) i) (curveTerm choice (now (curve .entry)) (packedScene (f .width)
         (f .height) (now (out .entry))) (pictureOf (now (bytes .entry)) f) k x y)) (now (sums .entry)) (now (sums .exit)) ⌝ }

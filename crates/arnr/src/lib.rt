@@ -4,6 +4,7 @@ mod build;
 mod half;
 mod sad;
 mod search;
+mod three;
 
 use denoiser::BuildAnswer;
 use denoiser::Built;
@@ -11,10 +12,10 @@ use denoiser::Choice;
 use weights::ArnrConfig;
 use window::Checked;
 ghost use Rattle.denoiser.specs.Chroma.{ruleOf};
-ghost use Rattle.denoiser.specs.Build.{BuildBy, BuildIs, BuildHalf, asked};
+ghost use Rattle.denoiser.specs.Build.{BuildBy, BuildIs, BuildHalf, BuildThree, asked};
 
-// Both builders: the checks, and what an accepted call makes by the choice.
-fn build_by(
+// Every builder: the checks, and what an accepted call makes by the choice.
+pub fn build_by(
     bytes: &[u8],
     numbers: &[u32],
     centre: usize,
@@ -94,7 +95,10 @@ pub fn build_from_numbers(
       weights = now (weights .exit);
     }) ⌝ }
 {
-    let whole = Choice { half_sample: false };
+    let whole = Choice {
+        half_sample: false,
+        three_planes: false,
+    };
     build_by(bytes, numbers, centre, config, whole, output, sums, weights)
 }
 
@@ -121,6 +125,40 @@ pub fn build_half_sample(
       weights = now (weights .exit);
     }) ⌝ }
 {
-    let half = Choice { half_sample: true };
+    let half = Choice {
+        half_sample: true,
+        three_planes: false,
+    };
     build_by(bytes, numbers, centre, config, half, output, sums, weights)
+}
+
+// A block is accepted on all three planes together, without half samples in U and V or with them.
+pub fn build_three_planes(
+    bytes: &[u8],
+    numbers: &[u32],
+    centre: usize,
+    config: ArnrConfig,
+    half_sample: bool,
+    output: &mut [u8],
+    sums: &mut [u32],
+    weights: &mut [u32],
+) -> BuildAnswer
+    ensures { λ r. ⌜ BuildThree «half_sample» (record {
+      request = asked (now (bytes .entry)) (now (numbers .entry)) centre (config .strength);
+      lent = record {
+        output = now (output .entry);
+        sums = now (sums .entry);
+        weights = now (weights .entry);
+      };
+    }) r (record {
+      output = now (output .exit);
+      sums = now (sums .exit);
+      weights = now (weights .exit);
+    }) ⌝ }
+{
+    let three = Choice {
+        half_sample: half_sample,
+        three_planes: true,
+    };
+    build_by(bytes, numbers, centre, config, three, output, sums, weights)
 }

@@ -141,7 +141,7 @@ fn difference(a: u8, b: u8) -> u32
 }
 
 // The SAD of two rows of at most 16.
-fn short_row_sad(a: &[u8], b: &[u8]) -> u32
+pub(crate) fn short_row_sad(a: &[u8], b: &[u8]) -> u32
     requires { ⌜ (length (now b) ≡ length (now a)) × (length (now a) ≤ 16) ⌝ }
     ensures { λ r. ⌜ (r ≡ sumBelow (rowDistance (now (a .entry)) (now (b .entry))) (length (now (a .entry)))) × (r ≤ 4080) ⌝ }
 {

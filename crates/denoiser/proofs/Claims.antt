@@ -34,9 +34,9 @@ use Rattle.denoiser.specs.Grid.{gridBlock, gridSide, blockIn, unitOf}
 use Rattle.denoiser.specs.Search.{measuredBy, blockSearch, displacementIn}
 use Rattle.denoiser.specs.Internal.{stepBest, Reach, Short}
 use Rattle.denoiser.specs.Window.{Picture, Other, Scene, Rule, gate, centreAt, shareOf, totalAt, sumAt, acceptedIn, acceptedBlocks}
-use Rattle.denoiser.specs.Window.{Window, denoisedAt, displacementOf, sadAccepted, blockAccepted, displacedAt, arnrRule, plainRule}
+use Rattle.denoiser.specs.Window.{Window, denoisedAt, displacementOf, sadAccepted, displacedAt, arnrRule, plainRule}
 use Rattle.denoiser.specs.declared.Choice.{Choice}
-use Rattle.denoiser.specs.Chroma.{chosenSample, ruleOf, wholeSamples, halfRule}
+use Rattle.denoiser.specs.Chroma.{chosenSample, chosenAccepts, ruleOf, wholeSamples, halfRule}
 use Rattle.denoiser.specs.Pictures.{pictureOf, otherOf, othersOf}
 use Rattle.denoiser.specs.Demand.{Held}
 use Rattle.denoiser.specs.Build.{Request, BuildInput, givenOf, centreFrame, sceneOf, windowOf, cropped, builtOf, outcomeOf, BuildBy}
@@ -137,32 +137,33 @@ accepted-below b sad h = lt-ltb sad (13 * (b .columns * b .rows)) h
 pub excluded-from : (b : Block) (sad : ℕ) → 13 * (b .columns * b .rows) ≤ sad → sadAccepted b sad ≡ false
 excluded-from b sad h = le-ltb sad (13 * (b .columns * b .rows)) h
 
--- the builder's share, with the strength's curve: where the frame's block is accepted, the lesser of its cap and w of the displaced sample's difference; else 0
-pub record CurveShare (s : Scene) (f : Other) (k x y : ℕ) : Type 0 where
-  pub taken : blockAccepted s (f .picture) (y / unitOf k) (x / unitOf k) ≡ true
-      → shareOf (arnrRule s) s f k x y ≡ min (f .cap) (weightOf (min (s .strength) 6) (distance (displacedAt s (f .picture) k x y) (centreAt s k x y)))
-  pub left : blockAccepted s (f .picture) (y / unitOf k) (x / unitOf k) ≡ false → shareOf (arnrRule s) s f k x y ≡ 0
+-- a builder's share, with the strength's curve: where the frame's block is accepted, the lesser of its cap and w of the displaced sample's difference; else 0.
+-- This and what follows on caps is over any choice; `arnrRule` is that of `wholeSamples` (`whole-choice`)
+pub record CurveShare (o : Choice) (s : Scene) (f : Other) (k x y : ℕ) : Type 0 where
+  pub taken : chosenAccepts o s (f .picture) (y / unitOf k) (x / unitOf k) ≡ true
+      → shareOf (ruleOf o s) s f k x y ≡ min (f .cap) (weightOf (min (s .strength) 6) (distance (chosenSample o s (f .picture) k x y) (centreAt s k x y)))
+  pub left : chosenAccepts o s (f .picture) (y / unitOf k) (x / unitOf k) ≡ false → shareOf (ruleOf o s) s f k x y ≡ 0
 
-pub curve-share : (s : Scene) (f : Other) (k x y : ℕ) → 0 < s .strength → CurveShare s f k x y
-unfolding shareOf arnrRule gate cappedWeight
-curve-share s f k x y h =
+pub curve-share : (o : Choice) (s : Scene) (f : Other) (k x y : ℕ) → 0 < s .strength → CurveShare o s f k x y
+unfolding shareOf ruleOf gate cappedWeight
+curve-share o s f k x y h =
     record {
-      taken = λ e. simp e (ap (min (f .cap)) (read-some (s .strength) (distance (displacedAt s (f .picture) k x y) (centreAt s k x y)) h));
+      taken = λ e. simp e (ap (min (f .cap)) (read-some (s .strength) (distance (chosenSample o s (f .picture) k x y) (centreAt s k x y)) h));
       left = λ e. simp e;
     }
 
 -- a share is at most the frame's cap, and at most the curve's weight
-pub cap-least : (s : Scene) (f : Other) (k x y : ℕ)
-    → (shareOf (arnrRule s) s f k x y ≤ f .cap)
-    × (shareOf (arnrRule s) s f k x y ≤ weightRead (s .strength) (distance (displacedAt s (f .picture) k x y) (centreAt s k x y)))
-unfolding shareOf arnrRule
-cap-least s f k x y =
-    let c = capped (f .cap) (s .strength) (distance (displacedAt s (f .picture) k x y) (centreAt s k x y)) in
+pub cap-least : (o : Choice) (s : Scene) (f : Other) (k x y : ℕ)
+    → (shareOf (ruleOf o s) s f k x y ≤ f .cap)
+    × (shareOf (ruleOf o s) s f k x y ≤ weightRead (s .strength) (distance (chosenSample o s (f .picture) k x y) (centreAt s k x y)))
+unfolding shareOf ruleOf
+cap-least o s f k x y =
+    let c = capped (f .cap) (s .strength) (distance (chosenSample o s (f .picture) k x y) (centreAt s k x y)) in
     (gate-most _ _ _ (c .by-cap), gate-most _ _ _ (c .by-curve))
 
 -- with cap 0 a frame has no share at any sample
-pub cap-zero : (s : Scene) (f : Other) (k x y : ℕ) → f .cap ≡ 0 → shareOf (arnrRule s) s f k x y ≡ 0
-cap-zero s f k x y e = omega (arith, cap-least s f k x y .0)
+pub cap-zero : (o : Choice) (s : Scene) (f : Other) (k x y : ℕ) → f .cap ≡ 0 → shareOf (ruleOf o s) s f k x y ≡ 0
+cap-zero o s f k x y e = omega (arith, cap-least o s f k x y .0)
 
 -- a frame without its cap, and two requests that differ in caps alone
 abbrev uncapped : Frame → Frame
@@ -177,8 +178,8 @@ pub record CapsApart (p q : Request) : Type 0 where
   pub frames : (g : ℕ) → uncapped (frameAt (p .numbers) g) ≡ uncapped (frameAt (q .numbers) g)
 
 -- they have the same accepted count, and the same displacements
-pub record SameBlocks (p q : Request) : Type 0 where
-  pub count : acceptedBlocks (arnrRule (sceneOf p)) (windowOf p) ≡ acceptedBlocks (arnrRule (sceneOf q)) (windowOf q)
+pub record SameBlocks (o : Choice) (p q : Request) : Type 0 where
+  pub count : acceptedBlocks (ruleOf o (sceneOf p)) (windowOf p) ≡ acceptedBlocks (ruleOf o (sceneOf q)) (windowOf q)
   pub displacement : (g i j : ℕ) → displacementOf (sceneOf p) (pictureOf (p .bytes) (frameAt (p .numbers) g)) i j
       ≡ displacementOf (sceneOf q) (pictureOf (q .bytes) (frameAt (q .numbers) g)) i j
 
@@ -192,7 +193,7 @@ picture-uncapped bytes f = fun-ext plane
     plane (suc zero) = refl
     plane (suc (suc k)) = refl
 
-module _ (p q : Request) (a : CapsApart p q) where
+module _ (o : Choice) (p q : Request) (a : CapsApart p q) where
   picture-same : (g : ℕ) → pictureOf (p .bytes) (frameAt (p .numbers) g) ≡ pictureOf (q .bytes) (frameAt (q .numbers) g)
   picture-same g =
       picture-uncapped (p .bytes) (frameAt (p .numbers) g) ∙ ap (pictureOf (p .bytes)) (a .frames g)
@@ -207,20 +208,20 @@ module _ (p q : Request) (a : CapsApart p q) where
       ∙ ap (λ (n : ℕ). record { width = centreFrame q .width; height = centreFrame q .height; strength = n; centre = pictureOf (p .bytes) (frameAt (p .numbers) (p .centre)) }) (a .strength)
       ∙ ap (λ (c : Picture). record { width = centreFrame q .width; height = centreFrame q .height; strength = q .strength; centre = c }) centre-picture
 
-  blocks-of : (g : ℕ) → acceptedIn (arnrRule (sceneOf q)) (sceneOf q) (otherOf (p .bytes) (frameAt (p .numbers) g))
-      ≡ acceptedIn (arnrRule (sceneOf q)) (sceneOf q) (otherOf (q .bytes) (frameAt (q .numbers) g))
-  unfolding acceptedIn arnrRule
+  blocks-of : (g : ℕ) → acceptedIn (ruleOf o (sceneOf q)) (sceneOf q) (otherOf (p .bytes) (frameAt (p .numbers) g))
+      ≡ acceptedIn (ruleOf o (sceneOf q)) (sceneOf q) (otherOf (q .bytes) (frameAt (q .numbers) g))
+  unfolding acceptedIn ruleOf
   blocks-of g =
-      ap (λ (f : Picture). sumBelow (λ i. sumBelow (λ j. gate (blockAccepted (sceneOf q) f i j) 1) (gridSide (sceneOf q .width))) (gridSide (sceneOf q .height))) (picture-same g)
+      ap (λ (f : Picture). sumBelow (λ i. sumBelow (λ j. gate (chosenAccepts o (sceneOf q) f i j) 1) (gridSide (sceneOf q .width))) (gridSide (sceneOf q .height))) (picture-same g)
 
-  pub cap-count : SameBlocks p q
+  pub cap-count : SameBlocks o p q
   unfolding acceptedBlocks windowOf
   cap-count =
       record {
         count =
-            ap (λ (s : Scene). sumOver (acceptedIn (arnrRule s) s) (othersOf (p .bytes) (p .numbers) (p .centre) (frameCount (p .numbers)))) scene-same
-            ∙ ap (λ (c : ℕ). sumOver (acceptedIn (arnrRule (sceneOf q)) (sceneOf q)) (othersOf (p .bytes) (p .numbers) c (frameCount (p .numbers)))) (a .centre)
-            ∙ ap (λ (n : ℕ). sumOver (acceptedIn (arnrRule (sceneOf q)) (sceneOf q)) (othersOf (p .bytes) (p .numbers) (q .centre) n)) (a .count)
+            ap (λ (s : Scene). sumOver (acceptedIn (ruleOf o s) s) (othersOf (p .bytes) (p .numbers) (p .centre) (frameCount (p .numbers)))) scene-same
+            ∙ ap (λ (c : ℕ). sumOver (acceptedIn (ruleOf o (sceneOf q)) (sceneOf q)) (othersOf (p .bytes) (p .numbers) c (frameCount (p .numbers)))) (a .centre)
+            ∙ ap (λ (n : ℕ). sumOver (acceptedIn (ruleOf o (sceneOf q)) (sceneOf q)) (othersOf (p .bytes) (p .numbers) (q .centre) n)) (a .count)
             ∙ others-same (p .bytes) (p .numbers) (q .bytes) (q .numbers) (q .centre) (frameCount (q .numbers)) _ _ blocks-of;
         displacement = λ g i j.
             ap (λ (s : Scene). displacementOf s (pictureOf (p .bytes) (frameAt (p .numbers) g)) i j) scene-same
@@ -251,9 +252,9 @@ pub no-29 : (rule : Scene → Rule Other) (b : BuildInput)
 unfolding outcomeOf
 no-29 rule b caps = window.no-29 (givenOf b) caps (builtOf rule (b .request))
 
--- without half samples the rule of a choice is the Rust's, with caps
+-- by luma alone and without half samples the rule of a choice is the Rust's, with caps
 pub whole-choice : (s : Scene) → ruleOf wholeSamples s ≡ arnrRule s
-unfolding ruleOf arnrRule chosenSample displacedAt
+unfolding ruleOf arnrRule chosenSample chosenAccepts displacedAt
 whole-choice s = refl
 
 pub whole-build : (b : BuildInput) (r : BuildAnswer) (held : Held) → BuildBy (ruleOf wholeSamples) b r held → BuildBy arnrRule b r held
@@ -269,7 +270,7 @@ pub record LumaSame (w : Window Other) : Type 0 where
   pub weight : (f : Other) (e : ℕ) → halfRule (w .scene) .weight f e ≡ arnrRule (w .scene) .weight f e
 
 pub luma-same : (w : Window Other) → LumaSame w
-unfolding shareOf totalAt sumAt denoisedAt acceptedBlocks acceptedIn ruleOf arnrRule chosenSample displacedAt
+unfolding shareOf totalAt sumAt denoisedAt acceptedBlocks acceptedIn ruleOf arnrRule chosenSample chosenAccepts displacedAt
 luma-same w =
     record {
       share = λ f x y. refl;
@@ -299,7 +300,7 @@ module _ (b : BuildInput) (byte : (i : ℕ) → getD (b .request .bytes) i 0 < 2
       .old k (pos x) (pos y)
 
   pub even-same : (r : BuildAnswer) (held : Held) → BuildBy halfRule b r held → BuildBy arnrRule b r held
-  unfolding windowOf ruleOf arnrRule
+  unfolding windowOf ruleOf arnrRule chosenAccepts
   even-same r held = build-alike halfRule arnrRule b alike r held
     where
       alike : Each (Alike (halfRule (sceneOf (b .request))) (arnrRule (sceneOf (b .request))) (sceneOf (b .request))) (windowOf (b .request) .others)

@@ -69,6 +69,12 @@ module _ (k w h i j x y : ℕ) (acc : ℕ → ℕ → Bool) (f : ℕ → ℕ →
       ∙ ap (λ (v : ℕ). gate (eqb (y / unitOf k) i) (gate (eqb (x / unitOf k) j) v)) (ap (λ (b : Bool). gate b (f i j)) t ∙ gate-off (f i j))
       ∙ ap (gate (eqb (y / unitOf k) i)) (gate-zero (eqb (x / unitOf k) j)) ∙ gate-zero (eqb (y / unitOf k) i)
 
+  -- where it is accepted and where it is not
+  pub taken : (t : Bool) → x < sideOf k w → y < sideOf k h → acc i j ≡ t → gate t (gate (within (blockIn k (gridBlock w h i j)) x y) (f i j))
+      ≡ gate (eqb (y / unitOf k) i) (gate (eqb (x / unitOf k) j) (gate (acc (y / unitOf k) (x / unitOf k)) (f (y / unitOf k) (x / unitOf k))))
+  taken true hx hy e = gate-on true _ refl ∙ covered hx hy e
+  taken false hx hy e = gate-off _ ∙ sym (uncovered e)
+
 -- the grid covers the whole plane
 pub within-grid : (k n x : ℕ) → x < sideOf k n → x / unitOf k < gridSide n
 within-grid zero n x h = omega arith

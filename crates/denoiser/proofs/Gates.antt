@@ -99,7 +99,7 @@ unfolding gate
 gate-by true u v h = h refl
 gate-by false u v h = refl
 
-both : (s t : Bool) → (s && t) ≡ true → (s ≡ true) × (t ≡ true)
+pub both : (s t : Bool) → (s && t) ≡ true → (s ≡ true) × (t ≡ true)
 both true t e = (refl, e)
 both false t e = absurd (let z : _≡_ {A = ℕ} 0 1 = cc in omega arith)
 

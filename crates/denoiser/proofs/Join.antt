@@ -1,7 +1,7 @@
 -- What is made of a frame depends on the centre only by its samples in the planes, and on nothing but the frame, the centre, the size and the strength.
 -- This joins what the code reads, the packed copy of the centre and the lent curve, to the definitions. Assumes nothing.
 use mathlib.Core.Path.{_≡_, refl, sym, ap, _∙_, fun-ext}
-use mathlib.Core.Bool.{Bool}
+use mathlib.Core.Bool.{Bool, cond, _&&_}
 use mathlib.Core.List.{List}
 use Prim.Native.Nat.{ℕ, zero, suc, _+_, _*_, _/_, _^_, _≤_, _<_, min}
 use native.Mathlib.Nat.{mul-le-mul, pow-le-pow-right}
@@ -21,12 +21,13 @@ use Rattle.window.specs.Layout.{sideOf}
 use Rattle.denoiser.specs.declared.Block.{Block}
 use Rattle.denoiser.specs.declared.Displacement.{Displacement}
 use Rattle.denoiser.specs.declared.Choice.{Choice}
-use Rattle.denoiser.specs.Grid.{gridBlock, gridSide, unitOf}
+use Rattle.denoiser.specs.Grid.{gridBlock, gridSide, blockIn, unitOf}
 use Rattle.denoiser.specs.Search.{sadOf, displacedBy, blockSearch}
 use Rattle.denoiser.specs.Window.{Picture, Other, Scene, Rule, gate, centreAt, shareOf, acceptedIn, costOf, displacementOf, sadAccepted, blockAccepted}
-use Rattle.denoiser.specs.Chroma.{sampleIn, chosenSample, ruleOf}
+use Rattle.denoiser.specs.Chroma.{sampleIn, chosenSample, planeSad, planePasses, threeAccepted, chosenAccepts, ruleOf}
 use Rattle.denoiser.specs.Internal.{curveRule, curveShare, curveTerm, cappedCurve, otherShare, otherTerm, otherBlocks}
 use Rattle.denoiser.proofs.Cover.{grid-lies, within-grid}
+use Rattle.denoiser.proofs.Planes.{block-fits}
 
 -- the SAD looks at the rectangle only
 sad-same : (a b m : Samples) (r : Block) → ((x y : ℕ) → x < r .x + r .columns → y < r .y + r .rows → a (pos x) (pos y) ≡ b (pos x) (pos y)) → sadOf a m r ≡ sadOf b m r
@@ -62,12 +63,41 @@ module _ (o : Choice) (a b : Scene) (s : Agree a b) (f : Picture) where
   unfolding displacementOf
   displacement-same i j hi hj = ap blockSearch (cost-same i j hi hj)
 
-  pub accepted-same : (i j : ℕ) → 16 * i < a .height → 16 * j < a .width → blockAccepted a f i j ≡ blockAccepted b f i j
+  luma-accepted-same : (i j : ℕ) → 16 * i < a .height → 16 * j < a .width → blockAccepted a f i j ≡ blockAccepted b f i j
   unfolding blockAccepted
-  accepted-same i j hi hj =
+  luma-accepted-same i j hi hj =
       ap (λ (c : Displacement → ℕ). sadAccepted (gridBlock (a .width) (a .height) i j) (c (displacementOf a f i j))) (cost-same i j hi hj)
       ∙ ap (λ (d : Displacement). sadAccepted (gridBlock (a .width) (a .height) i j) (costOf b f i j d)) (displacement-same i j hi hj)
       ∙ ap (λ (r : Block). sadAccepted r (costOf b f i j (displacementOf b f i j))) (grid-same i j)
+
+  -- a plane's SAD looks at the centre only inside the plane, which no block overhangs
+  plane-sad-same : (half : Bool) (i j k : ℕ) → k < 3 → 16 * i < a .height → 16 * j < a .width → planeSad half a f i j k ≡ planeSad half b f i j k
+  unfolding planeSad
+  plane-sad-same half i j k hk hi hj =
+      let l = block-fits k (gridBlock (a .width) (a .height) i j) (a .width) (a .height) (grid-lies (a .width) (a .height) i j hi hj) in
+      sad-same (a .centre k) (b .centre k) (sampleIn half k (displacementOf a f i j) (f k)) (blockIn k (gridBlock (a .width) (a .height) i j))
+      (λ x y hx hy. s .centre k x y hk (omega (arith, l .wide)) (omega (arith, l .high)))
+      ∙ ap (λ (d : Displacement). sadOf (b .centre k) (sampleIn half k d (f k)) (blockIn k (gridBlock (a .width) (a .height) i j))) (displacement-same i j hi hj)
+      ∙ ap (λ (r : Block). sadOf (b .centre k) (sampleIn half k (displacementOf b f i j) (f k)) (blockIn k r)) (grid-same i j)
+
+  plane-passes-same : (half : Bool) (i j k : ℕ) → k < 3 → 16 * i < a .height → 16 * j < a .width → planePasses half a f i j k ≡ planePasses half b f i j k
+  unfolding planePasses
+  plane-passes-same half i j k hk hi hj =
+      ap (sadAccepted (blockIn k (gridBlock (a .width) (a .height) i j))) (plane-sad-same half i j k hk hi hj)
+      ∙ ap (λ (r : Block). sadAccepted (blockIn k r) (planeSad half b f i j k)) (grid-same i j)
+
+  pub three-accepted-same : (half : Bool) (i j : ℕ) → 16 * i < a .height → 16 * j < a .width → threeAccepted half a f i j ≡ threeAccepted half b f i j
+  unfolding threeAccepted
+  three-accepted-same half i j hi hj =
+      rw (
+        plane-passes-same half i j 0 (omega arith) hi hj,
+        plane-passes-same half i j 1 (omega arith) hi hj,
+        plane-passes-same half i j 2 (omega arith) hi hj,
+      )
+
+  pub accepted-same : (i j : ℕ) → 16 * i < a .height → 16 * j < a .width → chosenAccepts o a f i j ≡ chosenAccepts o b f i j
+  unfolding chosenAccepts
+  accepted-same i j hi hj = rw (three-accepted-same (o .«half_sample») i j hi hj, luma-accepted-same i j hi hj)
 
   module _ (k x y : ℕ) (hk : k < 3) (hx : x < sideOf k (a .width)) (hy : y < sideOf k (a .height)) where
     pub displaced-same : chosenSample o a f k x y ≡ chosenSample o b f k x y
@@ -77,23 +107,23 @@ module _ (o : Choice) (a b : Scene) (s : Agree a b) (f : Picture) where
         (displacement-same (y / unitOf k) (x / unitOf k) (in-grid k (a .height) y hy) (in-grid k (a .width) x hx))
 
     pub by-weight : (u v : ℕ → ℕ) → ((e : ℕ) → u e ≡ v e)
-        → gate (blockAccepted a f (y / unitOf k) (x / unitOf k)) (u (distance (chosenSample o a f k x y) (centreAt a k x y)))
-        ≡ gate (blockAccepted b f (y / unitOf k) (x / unitOf k)) (v (distance (chosenSample o b f k x y) (centreAt b k x y)))
+        → gate (chosenAccepts o a f (y / unitOf k) (x / unitOf k)) (u (distance (chosenSample o a f k x y) (centreAt a k x y)))
+        ≡ gate (chosenAccepts o b f (y / unitOf k) (x / unitOf k)) (v (distance (chosenSample o b f k x y) (centreAt b k x y)))
     by-weight u v e =
         ap (λ (t : Bool). gate t (u (distance (chosenSample o a f k x y) (centreAt a k x y)))) (accepted-same (y / unitOf k) (x / unitOf k) (in-grid k (a .height) y hy) (in-grid k (a .width) x hx))
-        ∙ ap (gate (blockAccepted b f (y / unitOf k) (x / unitOf k)))
+        ∙ ap (gate (chosenAccepts o b f (y / unitOf k) (x / unitOf k)))
         (e (distance (chosenSample o a f k x y) (centreAt a k x y))
         ∙ ap (λ (t : ℕ). v (distance t (centreAt a k x y))) displaced-same
         ∙ ap (λ (t : ℕ). v (distance (chosenSample o b f k x y) t)) (s .centre k x y hk hx hy))
 
   -- as many blocks are accepted
-  pub blocks-same : sumBelow (λ i. sumBelow (λ j. gate (blockAccepted a f i j) 1) (gridSide (a .width))) (gridSide (a .height))
-      ≡ sumBelow (λ i. sumBelow (λ j. gate (blockAccepted b f i j) 1) (gridSide (b .width))) (gridSide (b .height))
+  pub blocks-same : sumBelow (λ i. sumBelow (λ j. gate (chosenAccepts o a f i j) 1) (gridSide (a .width))) (gridSide (a .height))
+      ≡ sumBelow (λ i. sumBelow (λ j. gate (chosenAccepts o b f i j) 1) (gridSide (b .width))) (gridSide (b .height))
   blocks-same =
       sum-same _ _ (gridSide (a .height)) (λ i hi. sum-same _ _ (gridSide (a .width)) (λ j hj.
       ap (λ (t : Bool). gate t 1) (accepted-same i j (omega arith) (omega arith))))
-      ∙ ap (λ (n : ℕ). sumBelow (λ i. sumBelow (λ j. gate (blockAccepted b f i j) 1) (gridSide n)) (gridSide (a .height))) (s .width)
-      ∙ ap (λ (n : ℕ). sumBelow (λ i. sumBelow (λ j. gate (blockAccepted b f i j) 1) (gridSide (b .width))) (gridSide n)) (s .height)
+      ∙ ap (λ (n : ℕ). sumBelow (λ i. sumBelow (λ j. gate (chosenAccepts o b f i j) 1) (gridSide n)) (gridSide (a .height))) (s .width)
+      ∙ ap (λ (n : ℕ). sumBelow (λ i. sumBelow (λ j. gate (chosenAccepts o b f i j) 1) (gridSide (b .width))) (gridSide n)) (s .height)
 
 -- the lent curve is the strength's at every difference: from 256 on every weight is 0
 far : (strength e : ℕ) → 256 ≤ e → weightRead strength e ≡ 0

@@ -17,4 +17,6 @@ pub mod Makes
 pub mod Answers
 pub mod Rules
 pub mod Ceilings
+pub mod Three
+pub mod Passes
 pub mod Claims

@@ -18,8 +18,8 @@ use Rattle.denoiser.specs.declared.Block.{Block}
 use Rattle.denoiser.specs.declared.Displacement.{Displacement}
 use Rattle.denoiser.specs.declared.Choice.{Choice}
 use Rattle.denoiser.specs.Search.{displacedBy, displacementIn}
-use Rattle.denoiser.specs.Window.{Picture, Other, Scene, gate, shareOf, displacementOf, blockAccepted}
-use Rattle.denoiser.specs.Chroma.{halfSample, sampleIn, chosenSample}
+use Rattle.denoiser.specs.Window.{Picture, Other, Scene, gate, shareOf, displacementOf}
+use Rattle.denoiser.specs.Chroma.{halfSample, sampleIn, chosenSample, chosenAccepts}
 use Rattle.denoiser.specs.Pictures.{pictureOf}
 use Rattle.denoiser.specs.Internal.{Light, Placed, within, filteredIn, shareBy, termBy, curveRule, curveShare, curveTerm, cappedCurve, otherShare, otherTerm}
 use Rattle.denoiser.proofs.Gates.{gate-most, gate-times}
@@ -35,12 +35,12 @@ picture-byte bytes f byte k x y = sample-byte (planeOf bytes f k) byte x y
 -- what a frame adds at (x, y): by the block that covers it
 module _ (o : Choice) (curve : List ℕ) (s : Scene) (f : Picture) (k x y : ℕ) where
   pub share-at : curveShare o curve s f k x y
-      ≡ gate (blockAccepted s f (y / unitOf k) (x / unitOf k)) (shareBy curve (s .centre k) (sampleIn (o .«half_sample») k (displacementOf s f (y / unitOf k) (x / unitOf k)) (f k)) x y)
+      ≡ gate (chosenAccepts o s f (y / unitOf k) (x / unitOf k)) (shareBy curve (s .centre k) (sampleIn (o .«half_sample») k (displacementOf s f (y / unitOf k) (x / unitOf k)) (f k)) x y)
   unfolding curveShare shareOf curveRule chosenSample shareBy
   share-at = refl
 
   pub term-at : curveTerm o curve s f k x y
-      ≡ gate (blockAccepted s f (y / unitOf k) (x / unitOf k)) (termBy curve (s .centre k) (sampleIn (o .«half_sample») k (displacementOf s f (y / unitOf k) (x / unitOf k)) (f k)) x y)
+      ≡ gate (chosenAccepts o s f (y / unitOf k) (x / unitOf k)) (termBy curve (s .centre k) (sampleIn (o .«half_sample») k (displacementOf s f (y / unitOf k) (x / unitOf k)) (f k)) x y)
   unfolding curveTerm chosenSample termBy
   term-at =
       ap (λ (t : ℕ). t * sampleIn (o .«half_sample») k (displacementOf s f (y / unitOf k) (x / unitOf k)) (f k) (pos x) (pos y)) share-at ∙ sym (gate-times _ _ _)

@@ -11,7 +11,14 @@ use lib.Dec.{eqb, ltb}
 use lib.ListN.{length, getD, List·getD-eq-default}
 use borrow.Author.Tests.{eq-eqb, ne-eqb, lt-ltb, le-ltb}
 use Rattle.window.specs.Layout.{sideOf, offsetOf, packedSize, placeOf}
-use Rattle.denoiser.specs.Internal.{Lent, Room, Slack, Placed, Spread}
+use lib.IntN.{ℤ}
+use Rattle.prediction.specs.Plane.{Samples}
+use Rattle.denoiser.specs.declared.Block.{Block}
+use Rattle.denoiser.specs.Grid.{blockIn}
+use Rattle.denoiser.specs.Window.{gate}
+use Rattle.denoiser.specs.Internal.{Lent, Room, Slack, Light, Placed, Spread, within, termBy, shareBy, packedPicture}
+use Rattle.denoiser.proofs.Gates.{gate-most}
+use Rattle.denoiser.proofs.Place.{placed-room, term-most, share-most}
 use Rattle.denoiser.proofs.Planes.{below-end}
 
 pub spread-none : (w h : ℕ) (f : ℕ → ℕ → ℕ → ℕ) (l : List ℕ) → ((k x y : ℕ) → x < sideOf k w → y < sideOf k h → f k x y ≡ 0) → Spread w h f l l
@@ -89,6 +96,27 @@ spread-room w h f n m old now wide g most room t = by (decLt t (w * h)) (decLt t
     by (no l) (yes d) e = in-plane 1 (omega arith) (t - w * h) (omega arith) (omega arith) half
     by (no l) (no d) (yes e) = in-plane 2 (omega arith) (t - (w * h + cw * ch)) (omega arith) (omega arith) half
     by (no l) (no d) (no e) = rw (g .past t (omega arith)) (let r = room t in omega arith)
+
+-- one plane of a block, by any samples that are bytes: one frame's room is used up, and the lengths stay
+module _ (w h : ℕ) (b : Block) (k : ℕ) (curve out : List ℕ) (samples : Samples) (light : Light curve) (side : 0 < sideOf k w) (byte : (x y : ℤ) → samples x y ≤ 255)
+    {sums₀ sums weights₀ weights : List ℕ}
+    (p : Placed (offsetOf k w h) (sideOf k w) (sideOf k h) (λ x y. gate (within (blockIn k b) x y) (termBy curve (packedPicture w h out k) samples x y)) sums₀ sums)
+    (q : Placed (offsetOf k w h) (sideOf k w) (sideOf k h) (λ x y. gate (within (blockIn k b) x y) (shareBy curve (packedPicture w h out k) samples x y)) weights₀ weights) where
+  pub plane-slack : (n : ℕ) → Slack (n + 1) sums₀ weights₀ → Slack n sums weights
+  plane-slack n s =
+      record {
+        of-sums =
+            placed-room _ _ _ _ (n * 4080) 4080 _ _ side p (λ i j. gate-most _ _ 4080 (term-most curve _ _ light i j (byte _ _)))
+            (λ i. let r = s .of-sums i in omega arith);
+        of-weights =
+            placed-room _ _ _ _ (n * 16) 16 _ _ side q (λ i j. gate-most _ _ 16 (share-most curve _ _ light i j)) (λ i. let r = s .of-weights i in omega arith);
+      }
+
+  pub plane-lent : Lent (packedSize w h) out sums₀ weights₀ → Lent (packedSize w h) out sums weights
+  plane-lent l = record { in-out = l .in-out; in-sums = rw (p .long) (l .in-sums); in-weights = rw (q .long) (l .in-weights) }
+
+pub slack-less : (m n : ℕ) (sums weights : List ℕ) → m ≤ n → Slack n sums weights → Slack m sums weights
+slack-less m n sums weights h s = record { of-sums = λ k. let r = s .of-sums k in omega arith; of-weights = λ k. let r = s .of-weights k in omega arith }
 
 -- both working slices at once: where no more than m frames are added, n of n + m are left, and the lengths stay
 module _ (w h : ℕ) {f g : ℕ → ℕ → ℕ → ℕ} {sums₀ sums weights₀ weights : List ℕ} (a : Spread w h f sums₀ sums) (b : Spread w h g weights₀ weights) where

@@ -15,7 +15,7 @@ use Rattle.denoiser.specs.declared.Built.{Built}
 use Rattle.denoiser.specs.declared.BuildAnswer.{BuildAnswer}
 use Rattle.denoiser.specs.declared.BuildAnswer.the-variants.{Done, Refused}
 use Rattle.denoiser.specs.Window.{Other, Scene, Window, Rule, centreAt, totalAt, sumAt, denoisedAt, acceptedBlocks, arnrRule}
-use Rattle.denoiser.specs.Chroma.{halfRule}
+use Rattle.denoiser.specs.Chroma.{halfRule, threeRule}
 use Rattle.denoiser.specs.Pictures.{pictureOf, othersOf}
 use Rattle.denoiser.specs.Demand.{Held, Demand3}
 
@@ -111,3 +111,7 @@ BuildIs b r held = BuildBy arnrRule b r held
 -- the builder with half samples in U and V: the same promise by the other rule
 abbrev pub BuildHalf : BuildInput → BuildAnswer → Held → Type 0
 BuildHalf b r held = BuildBy halfRule b r held
+
+-- the builder that accepts on three planes, without half samples or with them
+abbrev pub BuildThree : Bool → BuildInput → BuildAnswer → Held → Type 0
+BuildThree half b r held = BuildBy (threeRule half) b r held

@@ -1,6 +1,6 @@
 -- What the private contracts of the crate `arnr` speak of: parts of the lent slices, and what is added to them. No public contract uses these. Assumes nothing.
 use mathlib.Core.Path.{_≡_}
-use mathlib.Core.Bool.{Bool, false, cond, _&&_}
+use mathlib.Core.Bool.{Bool, true, false, cond, _&&_}
 use mathlib.Core.List.{List}
 use Prim.Native.Nat.{ℕ, zero, suc, _+_, _-_, _*_, _/_, _%_, _^_, _≤_, _<_, min}
 use lib.Dec.{leb, ltb}
@@ -24,8 +24,9 @@ use Rattle.denoiser.specs.declared.PlaneNumbers.{PlaneNumbers}
 use Rattle.denoiser.specs.declared.Motion.{Motion}
 use Rattle.denoiser.specs.declared.Choice.{Choice}
 use Rattle.denoiser.specs.Search.{sadOf, displacedBy, neighbourOf}
-use Rattle.denoiser.specs.Window.{Picture, Other, Scene, Rule, shareOf, sumAt, totalAt, denoisedAt, acceptedIn, acceptedBlocks, blockAccepted}
-use Rattle.denoiser.specs.Chroma.{halfDown, halfRow, chosenSample}
+use Rattle.denoiser.specs.Window.{Picture, Other, Scene, Rule, shareOf, sumAt, totalAt, denoisedAt, acceptedIn, acceptedBlocks, sadAccepted}
+use Rattle.denoiser.specs.Grid.{blockIn}
+use Rattle.denoiser.specs.Chroma.{halfDown, halfRow, sampleIn, chosenSample, chosenAccepts}
 use Rattle.denoiser.specs.Demand.{Held}
 use Rattle.denoiser.specs.Build.{Request, sceneOf, windowOf, cropped, packed, filled, builtOf, samplesOf}
 
@@ -101,6 +102,10 @@ lumaRow centre bytes p b d i =
     sumBelow (λ j. distance (sampleAt (packedPlane 0 (p .columns) (p .rows) centre) (pos (b .x + j)) (pos (b .y + i)))
     (displacedBy d (sampleAt (planeIn bytes p)) (pos (b .x + j)) (pos (b .y + i)))) (b .columns)
 
+-- row i of any SAD
+unfoldable pub sadRow : Samples → Samples → Block → ℕ → ℕ
+sadRow a b r i = sumBelow (λ j. distance (a (pos (r .x + j)) (pos (r .y + i))) (b (pos (r .x + j)) (pos (r .y + i)))) (r .columns)
+
 -- one step by itself: the best of a displacement and its eight neighbours
 unfoldable pub stepBest : (Displacement → ℕ) → ℕ → Displacement → Displacement
 stepBest cost step best = bestOf cost best (neighbourOf best step) 8
@@ -174,7 +179,7 @@ packedScene w h l = record { width = w; height = h; strength = 0; centre = packe
 
 -- the rule of a choice by a curve that is lent; a frame's share by it, and the share times the displaced sample
 unfoldable pub curveRule : Choice → List ℕ → Scene → Rule Picture
-curveRule c curve s = record { accepts = blockAccepted s; sample = chosenSample c s; weight = λ f e. getD curve e 0 }
+curveRule c curve s = record { accepts = chosenAccepts c s; sample = chosenSample c s; weight = λ f e. getD curve e 0 }
 
 unfoldable pub curveShare : Choice → List ℕ → Scene → Picture → ℕ → ℕ → ℕ → ℕ
 curveShare c curve s f k x y = shareOf (curveRule c curve s) s f k x y
@@ -219,6 +224,16 @@ downEight my rows i = filteredList sixtap my (window rows i 8)
 -- the samples of a block of 8 by 8 that stands at (x, y) of a plane
 unfoldable pub blockSamples : List ℕ → ℕ → ℕ → Samples
 blockSamples block x y i j = getD block ((above j - y) * 8 + (above i - x)) 0
+
+-- whether samples pass against the centre's over a rectangle; and whether U and V of a block do at a displacement, where the choice asks them
+unfoldable pub passesBy : Samples → Samples → Block → Bool
+passesBy centre samples r = sadAccepted r (sadOf centre samples r)
+
+unfoldable pub chromaPasses : Choice → Picture → Picture → Block → Displacement → Bool
+chromaPasses c centre f b d =
+    cond (c .«three_planes»)
+    (passesBy (centre 1) (sampleIn (c .«half_sample») 1 d (f 1)) (blockIn 1 b) && passesBy (centre 2) (sampleIn (c .«half_sample») 2 d (f 2)) (blockIn 2 b))
+    true
 
 -- n frames of one size, each within the bytes
 pub record Frames (bytes numbers : List ℕ) (n w h : ℕ) : Type 0 where

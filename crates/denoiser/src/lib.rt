@@ -23,9 +23,10 @@ pub struct PlaneNumbers {
     pub rows: usize,
 }
 
-// What a builder's call chooses: whether U and V are displaced by half samples.
+// What a builder's call chooses: whether U and V are displaced by half samples, and whether a block is accepted on three planes.
 pub struct Choice {
     pub half_sample: bool,
+    pub three_planes: bool,
 }
 
 // A displacement and its SAD.

@@ -35,6 +35,12 @@ unfolding sumBelow
 sum-least f zero m h = omega arith
 sum-least f (suc n) m h = omega (arith, sum-least f n m h, h n)
 
+-- summands that are no greater
+pub sum-less : (f g : ℕ → ℕ) (n : ℕ) → ((k : ℕ) → f k ≤ g k) → sumBelow f n ≤ sumBelow g n
+unfolding sumBelow
+sum-less f g zero h = omega arith
+sum-less f g (suc n) h = omega (arith, sum-less f g n h, h n)
+
 -- summands that are sums of two
 pub sum-plus : (f g : ℕ → ℕ) (n : ℕ) → sumBelow (λ k. f k + g k) n ≡ sumBelow f n + sumBelow g n
 unfolding sumBelow
@@ -75,6 +81,11 @@ pub sum-over-each : {X : Type 0} (f g : X → ℕ) (xs : List X) → Each (λ x.
 unfolding sumOver
 sum-over-each f g [] e = refl
 sum-over-each f g (x ∷ xs) e = omega (arith, e .0, sum-over-each f g xs (e .1))
+
+pub sum-over-less : {X : Type 0} (f g : X → ℕ) (xs : List X) → ((x : X) → f x ≤ g x) → sumOver f xs ≤ sumOver g xs
+unfolding sumOver
+sum-over-less f g [] h = omega arith
+sum-over-less f g (x ∷ xs) h = omega (arith, sum-over-less f g xs h, h x)
 
 pub sum-over-append : {X : Type 0} (f : X → ℕ) (xs ys : List X) → sumOver f (xs ++ ys) ≡ sumOver f xs + sumOver f ys
 unfolding sumOver
