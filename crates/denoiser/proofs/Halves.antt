@@ -7,10 +7,11 @@ use native.Mathlib.Decide.{ℕ-discrete}
 use native.Mathlib.Omega.{arith}
 use borrow.Author.Tests.{ltb-false}
 use lib.IntN.{ℤ, pos, natAbs, _+ℤ_, _-ℤ_, _*ℤ_}
-use lib.ListN.{getD}
+use lib.ListN.{length, getD, drop}
+use lib.Seq.{getD-drop}
 use Rattle.laws.proofs.Signed.{same, self, sum, diff, times, quot, floor, one-zero, less-of, less-pos, less-sum, less-diff}
 use Rattle.laws.specs.Tabulate.{tabulate}
-use Rattle.laws.proofs.Tabulate.{tabulate-same, getD-tabulate}
+use Rattle.laws.proofs.Tabulate.{length-tabulate, tabulate-same, getD-tabulate}
 use Rattle.prediction.specs.Vector.{wholeOf, fractionOf}
 use Rattle.prediction.specs.Plane.{Samples, movedBy}
 use Rattle.prediction.specs.Filter.{filtered, sixtap}
@@ -175,6 +176,17 @@ pub luma-copied : (half : Bool) (d : Displacement) → filteredIn half 0 d ≡ f
 unfolding filteredIn
 luma-copied half d = refl
 
+-- what is filtered is filtered by half samples; where U is copied, all is
+pub filtered-half : (half : Bool) (k : ℕ) (d : Displacement) → filteredIn half k d ≡ true → half ≡ true
+unfolding filteredIn
+filtered-half half zero d e = absurd (no-true e)
+filtered-half half (suc k) d e = and-left half _ e
+
+pub all-copied : (half : Bool) (d : Displacement) → filteredIn half 1 d ≡ false → (k : ℕ) → filteredIn half k d ≡ false
+unfolding filteredIn
+all-copied half d e zero = refl
+all-copied half d e (suc k) = e
+
 -- U and V are filtered alike
 pub chroma-alike : (half : Bool) (d : Displacement) → filteredIn half 1 d ≡ filteredIn half 2 d
 unfolding filteredIn
@@ -214,7 +226,12 @@ module _ (d : Displacement) (at : Samples) (x y : ℕ) where
       ∙ getD-tabulate 104 (acrossEight (halfRow (d .dx)) halo) (n + j * 8) 0 (omega arith)
       ∙ filtered-same (sixtap (halfRow (d .dx))) _ _ (λ i hi. across-is n j i hn hj hi)))
 
--- such a block holds the half samples of the places that it covers
+-- such a block holds 64 samples
+pub square-long : (x y : ℤ) (at : Samples) → length (squareOf 8 x y at) ≡ 64
+unfolding squareOf
+square-long x y at = length-tabulate 64 _
+
+-- it holds the half samples of the places that it covers
 pub block-holds : (d : Displacement) (at : Samples) (x y : ℕ) (block : List ℕ) → block ≡ squareOf 8 (pos x) (pos y) (halfSample d at)
     → (i j : ℕ) → x ≤ i → i < x + 8 → y ≤ j → j < y + 8 → blockSamples block x y (pos i) (pos j) ≡ halfSample d at (pos i) (pos j)
 unfolding blockSamples
@@ -225,6 +242,13 @@ block-holds d at x y block e i j xi xe yj ye =
     ap (λ (l : List ℕ). getD l n 0) e ∙ square-at 8 (pos x) (pos y) (halfSample d at) n (omega arith)
     ∙ ap (λ (t : ℕ). halfSample d at (pos t) (pos (y + n / 8))) column
     ∙ ap (λ (t : ℕ). halfSample d at (pos i) (pos t)) row
+
+-- sample k of row r of the block stands at column x + k and row y + r of the plane
+pub square-row : (block : List ℕ) (x y r k : ℕ) → getD (drop (8 * r) block) k 0 ≡ blockSamples block x y (pos (x + k)) (pos (y + r))
+unfolding blockSamples
+square-row block x y r k =
+    let e : 8 * r + k ≡ (y + r - y) * 8 + (x + k - x) = omega arith in
+    getD-drop (8 * r) block k 0 ∙ ap (λ (i : ℕ). getD block i 0) e
 
 -- what such a block adds, where it covers no more than 8 by 8, is what the half samples add
 module _ (curve : List ℕ) (centre : Samples) (d : Displacement) (at : Samples) (b : Block) (slim : b .columns ≤ 8) (low : b .rows ≤ 8)

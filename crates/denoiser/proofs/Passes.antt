@@ -2,14 +2,14 @@
 use mathlib.Core.Path.{_≡_, refl, sym, ap, _∙_}
 use mathlib.Core.Bool.{Bool, true, false, cond, _&&_}
 use mathlib.Core.List.{List}
-use Prim.Native.Nat.{ℕ, _+_, _*_, _≤_, _<_, min}
+use Prim.Native.Nat.{ℕ, _+_, _-_, _*_, _≤_, _<_, min}
 use native.Mathlib.Omega.{arith}
 use native.Mathlib.Decide.{decLt}
 use borrow.Author.Tests.{lt-ltb, le-ltb}
 use lib.Dec.{ltb}
 use lib.IntN.{ℤ, pos, _+ℤ_}
-use lib.ListN.{getD, drop}
-use lib.Seq.{getD-drop}
+use lib.ListN.{length, getD, take, drop, length-drop}
+use lib.Seq.{getD-drop, take-length}
 use Rattle.laws.specs.Sums.{sumBelow}
 use Rattle.laws.proofs.Sums.{sum-same}
 use Rattle.prediction.specs.declared.ceiling.Ceiled.{Ceiled}
@@ -48,6 +48,20 @@ unfolding passesBy sadOf sadRow
 ceiled-passes centre samples r c i =
     ap (λ (n : ℕ). ltb n (13 * (r .columns * r .rows))) (lesser (sadRow centre samples r) (r .rows) (13 * (r .columns * r .rows)) c i)
     ∙ below-min (sadOf centre samples r) (13 * (r .columns * r .rows))
+
+-- what a slice holds from a place on, to its end
+pub rest-is : (at : ℕ) (out : List ℕ) → take (length out - at) (drop at out) ≡ drop at out
+rest-is at out = ap (λ (n : ℕ). take n (drop at out)) (sym (length-drop at out)) ∙ take-length (drop at out)
+
+-- two questions where a choice asks them: the second is asked where the first holds
+pub asked-both : (t a b r : Bool) → t ≡ true → a ≡ true → r ≡ b → r ≡ cond t (a && b) true
+asked-both t a b r et ea e = rw (et, ea) e
+
+pub asked-first : (t a b : Bool) → t ≡ true → a ≡ false → false ≡ cond t (a && b) true
+asked-first t a b et ea = rw (et, ea)
+
+pub not-asked : (t a : Bool) → t ≡ false → true ≡ cond t a true
+not-asked t a e = rw e
 
 -- the rows of a plane that stands packed in a list from `at` on
 pub rows-from : (out bytes : List ℕ) (p : PlaneNumbers) (b : Block) (d : Displacement) (at i : ℕ)

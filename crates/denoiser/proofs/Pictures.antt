@@ -71,20 +71,3 @@ module _ (o : Choice) (curve : List ℕ) (s : Scene) (f : Other) (k x y : ℕ) (
   pub other-term-light : ((a b : ℤ) → f .picture k a b ≤ 255) → otherTerm o curve s f k x y ≤ 4080
   unfolding otherTerm
   other-term-light byte = term-light o (cappedCurve curve (f .cap)) s (f .picture) k x y (capped-light curve (f .cap) light) byte
-
--- what a block adds in plane k by the choice: the copied samples where it is not filtered, and the half samples where it is
-module _ (o : Choice) (bytes : List ℕ) (f : Frame) (k : ℕ) (b : Block) (d : Displacement) (curve : List ℕ) (centre : Samples) (at columns rows : ℕ) (old now : List ℕ)
-    (g : List ℕ → Samples → Samples → ℕ → ℕ → ℕ) (goes : (s t : Samples) (x y : ℕ) → s (pos x) (pos y) ≡ t (pos x) (pos y) → g curve centre s x y ≡ g curve centre t x y) where
-  pub by-copies : filteredIn (o .«half_sample») k d ≡ false → ((i : ℕ) → getD bytes i 0 < 256)
-      → Placed at columns rows (λ x y. gate (within (blockIn k b) x y) (g curve centre (displacedBy (displacementIn k d) (pictureOf bytes f k)) x y)) old now
-      → Placed at columns rows (λ x y. gate (within (blockIn k b) x y) (g curve centre (sampleIn (o .«half_sample») k d (pictureOf bytes f k)) x y)) old now
-  by-copies e byte p =
-      placed-same at columns rows _ p
-      (λ x y. ap (gate (within (blockIn k b) x y)) (goes _ _ x y (sym (copied-is (o .«half_sample») k d (pictureOf bytes f k) e (picture-byte bytes f byte k) (pos x) (pos y)))))
-
-  pub by-halves : filteredIn (o .«half_sample») k d ≡ true
-      → Placed at columns rows (λ x y. gate (within (blockIn k b) x y) (g curve centre (halfSample d (pictureOf bytes f k)) x y)) old now
-      → Placed at columns rows (λ x y. gate (within (blockIn k b) x y) (g curve centre (sampleIn (o .«half_sample») k d (pictureOf bytes f k)) x y)) old now
-  by-halves e p =
-      placed-same at columns rows _ p
-      (λ x y. ap (gate (within (blockIn k b) x y)) (goes _ _ x y (ap (λ (s : Samples). s (pos x) (pos y)) (sym (filtered-is (o .«half_sample») k d (pictureOf bytes f k) e)))))

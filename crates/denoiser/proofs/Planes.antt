@@ -75,6 +75,10 @@ block-fits zero b w h l = l
 block-fits (suc k) b w h l =
     record { slim = omega (arith, l .slim); low = omega (arith, l .low); wide = omega (arith, l .wide); high = omega (arith, l .high) }
 
+pub some-side : (k w : ℕ) → 0 < w → 0 < sideOf k w
+some-side zero w h = h
+some-side (suc k) w h = omega arith
+
 pub short-in : (k : ℕ) (d : Displacement) → Short d → Short (displacementIn k d)
 short-in zero d s = s
 short-in (suc k) d s = omega (arith, quot (d .dx) 2, quot (d .dy) 2, s .right, s .left, s .down, s .up)

@@ -5,12 +5,13 @@ use Prim.Native.Nat.{ℕ, _+_, _*_, _/_, _≤_, _<_}
 use lib.Dec.{eqb}
 use Rattle.denoiser.specs.declared.Block.{Block}
 use Rattle.denoiser.specs.Grid.{gridBlock, unitOf}
-use Rattle.denoiser.specs.Chroma.{sampleIn}
+use Rattle.denoiser.specs.Chroma.{sampleIn, chosenAccepts}
 use Rattle.denoiser.specs.Window.{gate, costOf, displacementOf, sadAccepted, blockAccepted}
 use Rattle.denoiser.specs.Pictures.{pictureOf}
-use Rattle.denoiser.specs.Internal.{Short, packedPicture, packedScene, shareBy, termBy}
-use Rattle.denoiser.proofs.Cover.{grid-lies, covered, uncovered}
-use Rattle.denoiser.proofs.Gates.{gate-on, gate-off}
+use Rattle.denoiser.specs.Internal.{Short, chromaPasses, packedPicture, packedScene, shareBy, termBy}
+use Rattle.denoiser.proofs.Cover.{grid-lies, taken, uncovered}
+use Rattle.denoiser.proofs.Gates.{gate-off}
+use Rattle.denoiser.proofs.Passes.{by-chroma, by-luma}
 use Rattle.denoiser.proofs.Pictures.{share-at, term-at}
 use Rattle.denoiser.proofs.Searches.{search-reach}
 use Rattle.denoiser.proofs.Spreads.{spread-same, spread-none}
@@ -79,21 +80,24 @@ returns c =
     let j = s .args .j in
     let out = s .args .out .now in
     let curve = s .args .curve .now in
-    let half = s .args .choice .«half_sample» in
+    let o = s .args .choice in
+    let half = o .«half_sample» in
     let scene = packedScene w h out in
     let picture = pictureOf (s .args .bytes .now) f in
+    let passes = chromaPasses o (packedPicture w h out) picture (gridBlock w h i j) (displacementOf scene picture i j) in
     let yes : blockAccepted scene picture i j ≡ true = sym (accepts-is (c .before .before .before .before .before .before .before .before)) ∙ c .before .before .before .before .before .before .before .if1 .taken in
+    let by : chosenAccepts o scene picture i j ≡ passes = by-chroma o scene picture i j yes in
     let done = simp (c .before .before .before .before .before .before .before .before .before .before .grid-block .ensures, c .before .before .before .before .before .before .before .before .before .motion-at .ensures .displacement) at (c .before .before .before .before .blend-planes .ensures) in (
-      sym (gate-on (blockAccepted scene picture i j) 1 yes),
+      done .0 ∙ ap (λ (t : Bool). gate t 1) (sym by),
       (
-        spread-same w h _ (done .0)
+        spread-same w h _ (done .1 .0)
             (λ k x y hk hx hy.
-            covered k w h i j x y (blockAccepted scene picture) (λ a e. termBy curve (packedPicture w h out k) (sampleIn half k (displacementOf scene picture a e) (picture k)) x y) hx hy yes
-            ∙ ap (λ (t : ℕ). gate (eqb (y / unitOf k) i) (gate (eqb (x / unitOf k) j) t)) (sym (term-at (s .args .choice) curve scene picture k x y))),
-        spread-same w h _ (done .1)
+            taken k w h i j x y (chosenAccepts o scene picture) (λ a e. termBy curve (packedPicture w h out k) (sampleIn half k (displacementOf scene picture a e) (picture k)) x y) passes hx hy by
+            ∙ ap (λ (t : ℕ). gate (eqb (y / unitOf k) i) (gate (eqb (x / unitOf k) j) t)) (sym (term-at o curve scene picture k x y))),
+        spread-same w h _ (done .1 .1)
             (λ k x y hk hx hy.
-            covered k w h i j x y (blockAccepted scene picture) (λ a e. shareBy curve (packedPicture w h out k) (sampleIn half k (displacementOf scene picture a e) (picture k)) x y) hx hy yes
-            ∙ ap (λ (t : ℕ). gate (eqb (y / unitOf k) i) (gate (eqb (x / unitOf k) j) t)) (sym (share-at (s .args .choice) curve scene picture k x y))),
+            taken k w h i j x y (chosenAccepts o scene picture) (λ a e. shareBy curve (packedPicture w h out k) (sampleIn half k (displacementOf scene picture a e) (picture k)) x y) passes hx hy by
+            ∙ ap (λ (t : ℕ). gate (eqb (y / unitOf k) i) (gate (eqb (x / unitOf k) j) t)) (sym (share-at o curve scene picture k x y))),
       ),
     )
 
@@ -108,20 +112,21 @@ returns-2 c =
     let j = s .args .j in
     let out = s .args .out .now in
     let curve = s .args .curve .now in
-    let half = s .args .choice .«half_sample» in
+    let o = s .args .choice in
+    let half = o .«half_sample» in
     let scene = packedScene w h out in
     let picture = pictureOf (s .args .bytes .now) f in
-    let none : blockAccepted scene picture i j ≡ false = sym (accepts-is (c .before)) ∙ c .if1 .left in (
+    let none : chosenAccepts o scene picture i j ≡ false = by-luma o scene picture i j (sym (accepts-is (c .before)) ∙ c .if1 .left) in (
       sym (ap (λ (t : Bool). gate t 1) none ∙ gate-off 1),
       (
         spread-none w h _ (s .args .sums .now)
             (λ k x y hx hy.
-            ap (λ (t : ℕ). gate (eqb (y / unitOf k) i) (gate (eqb (x / unitOf k) j) t)) (term-at (s .args .choice) curve scene picture k x y)
-            ∙ uncovered k w h i j x y (blockAccepted scene picture) (λ a e. termBy curve (packedPicture w h out k) (sampleIn half k (displacementOf scene picture a e) (picture k)) x y) none),
+            ap (λ (t : ℕ). gate (eqb (y / unitOf k) i) (gate (eqb (x / unitOf k) j) t)) (term-at o curve scene picture k x y)
+            ∙ uncovered k w h i j x y (chosenAccepts o scene picture) (λ a e. termBy curve (packedPicture w h out k) (sampleIn half k (displacementOf scene picture a e) (picture k)) x y) none),
         spread-none w h _ (s .args .weights .now)
             (λ k x y hx hy.
-            ap (λ (t : ℕ). gate (eqb (y / unitOf k) i) (gate (eqb (x / unitOf k) j) t)) (share-at (s .args .choice) curve scene picture k x y)
-            ∙ uncovered k w h i j x y (blockAccepted scene picture) (λ a e. shareBy curve (packedPicture w h out k) (sampleIn half k (displacementOf scene picture a e) (picture k)) x y) none),
+            ap (λ (t : ℕ). gate (eqb (y / unitOf k) i) (gate (eqb (x / unitOf k) j) t)) (share-at o curve scene picture k x y)
+            ∙ uncovered k w h i j x y (chosenAccepts o scene picture) (λ a e. shareBy curve (packedPicture w h out k) (sampleIn half k (displacementOf scene picture a e) (picture k)) x y) none),
       ),
     )
 

@@ -8,7 +8,8 @@ use Rattle.laws.specs.Sums.{sumBelow}
 use Rattle.laws.proofs.Sums.{sum-none, sum-more}
 use Rattle.window.specs.Layout.{packedSize}
 use Rattle.denoiser.specs.Grid.{gridSide, unitOf}
-use Rattle.denoiser.specs.Window.{gate, blockAccepted, acceptedIn}
+use Rattle.denoiser.specs.Window.{gate, acceptedIn}
+use Rattle.denoiser.specs.Chroma.{chosenAccepts}
 use Rattle.denoiser.specs.Pictures.{pictureOf}
 use Rattle.denoiser.specs.Internal.{Lent, Slack, Spread, packedScene, curveRule, curveShare, curveTerm}
 use Rattle.denoiser.proofs.Cover.{within-grid}
@@ -23,7 +24,7 @@ use Rattle.arnr.proofs.accumulate.blend_frame.Tie as tie
 abbrev Inv-loop : tie.InvT-loop
 Inv-loop bytes f choice curve out sums₀ weights₀ rows count₀ i₀ sums weights count i =
     (i ≤ rows)
-    × (count ≡ sumBelow (λ a. sumBelow (λ b. gate (blockAccepted (packedScene (f .width) (f .height) out) (pictureOf bytes f) a b) 1) (gridSide (f .width))) i)
+    × (count ≡ sumBelow (λ a. sumBelow (λ b. gate (chosenAccepts choice (packedScene (f .width) (f .height) out) (pictureOf bytes f) a b) 1) (gridSide (f .width))) i)
     × (count ≤ 1024 * i)
     × Spread (f .width) (f .height) (λ k x y. gate (ltb (y / unitOf k) i) (curveTerm choice curve (packedScene (f .width) (f .height) out) (pictureOf bytes f) k x y)) sums₀ sums
     × Spread (f .width) (f .height) (λ k x y. gate (ltb (y / unitOf k) i) (curveShare choice curve (packedScene (f .width) (f .height) out) (pictureOf bytes f) k x y)) weights₀ weights

@@ -8,7 +8,8 @@ use Rattle.laws.specs.Sums.{sumBelow}
 use Rattle.laws.proofs.Sums.{sum-none, sum-more}
 use Rattle.window.specs.Layout.{packedSize}
 use Rattle.denoiser.specs.Grid.{gridSide, unitOf}
-use Rattle.denoiser.specs.Window.{gate, blockAccepted, acceptedIn}
+use Rattle.denoiser.specs.Window.{gate, acceptedIn}
+use Rattle.denoiser.specs.Chroma.{chosenAccepts}
 use Rattle.denoiser.specs.Pictures.{pictureOf}
 use Rattle.denoiser.specs.Internal.{Lent, Slack, Spread, packedScene, curveRule, curveShare, curveTerm}
 use Rattle.denoiser.proofs.Cover.{within-grid}
@@ -23,7 +24,7 @@ use Rattle.arnr.proofs.accumulate.blend_grid_row.Tie as tie
 abbrev Inv-loop : tie.InvT-loop
 Inv-loop bytes f i choice curve out sums₀ weights₀ columns count₀ j₀ sums weights count j =
     (j ≤ columns)
-    × (count ≡ sumBelow (λ b. gate (blockAccepted (packedScene (f .width) (f .height) out) (pictureOf bytes f) i b) 1) j)
+    × (count ≡ sumBelow (λ b. gate (chosenAccepts choice (packedScene (f .width) (f .height) out) (pictureOf bytes f) i b) 1) j)
     × (count ≤ j)
     × Spread (f .width) (f .height) (λ k x y. gate (eqb (y / unitOf k) i) (gate (ltb (x / unitOf k) j) (curveTerm choice curve (packedScene (f .width) (f .height) out) (pictureOf bytes f) k x y))) sums₀ sums
     × Spread (f .width) (f .height) (λ k x y. gate (eqb (y / unitOf k) i) (gate (ltb (x / unitOf k) j) (curveShare choice curve (packedScene (f .width) (f .height) out) (pictureOf bytes f) k x y))) weights₀ weights

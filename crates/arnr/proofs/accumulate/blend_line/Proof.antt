@@ -5,10 +5,10 @@ use Prim.Native.Nat.{ℕ, _+_, _-_, _*_, _^_, _≤_, _<_}
 use native.Mathlib.Nat.{add-sub-cancel-left}
 use lib.IntN.{pos}
 use lib.ListN.{length, getD, drop}
-use lib.Seq.{getD-drop}
 use Rattle.laws.proofs.Slices.{mid-long, mid-all}
 use Rattle.prediction.specs.Plane.{sampleAt}
 use Rattle.denoiser.specs.Internal.{packedPlane, blockSamples}
+use Rattle.denoiser.proofs.Halves.{square-row}
 use Rattle.denoiser.proofs.Place.{placed-span, share-is, term-is}
 use Rattle.denoiser.proofs.Planes.{row-below, packed-at}
 use native.Mathlib.Omega.{arith}
@@ -32,13 +32,6 @@ module _ (s : tie.Start) where
 
   in-block : 8 * s .args .r + s .args .b .columns ≤ length (s .args .block .now)
   in-block = omega (arith, s .pre .0)
-
--- sample k of row r of the block stands at column x + k and row y + r of the plane
-sample-is : (block : List ℕ) (x y r k : ℕ) → getD (drop (8 * r) block) k 0 ≡ blockSamples block x y (pos (x + k)) (pos (y + r))
-unfolding blockSamples
-sample-is block x y r k =
-    let e : 8 * r + k ≡ (y + r - y) * 8 + (x + k - x) = omega arith in
-    getD-drop (8 * r) block k 0 ∙ ap (λ (i : ℕ). getD block i 0) e
 
 mul-first : tie.Need-mul-first
 mul-first c = search needs
@@ -142,7 +135,7 @@ returns c =
     let samples = blockSamples block x (s .args .b .y) in
     let packed : (k : ℕ) → k < n → getD out (from + k) 0 ≡ plane (pos (x + k)) (pos y)
     = λ k h. ap (λ (t : ℕ). getD out t 0) (omega arith) ∙ sym (packed-at at (p .columns) (p .rows) out (x + k) y (omega (arith, q .wide)) (q .high)) in
-    let row : (k : ℕ) → k < n → getD (drop (8 * s .args .r) block) k 0 ≡ samples (pos (x + k)) (pos y) = λ k h. sample-is block x (s .args .b .y) (s .args .r) k in
+    let row : (k : ℕ) → k < n → getD (drop (8 * s .args .r) block) k 0 ≡ samples (pos (x + k)) (pos y) = λ k h. square-row block x (s .args .b .y) (s .args .r) k in
     let done = simp (add-sub-cancel-left, mid-long from n out (in-out s)) at (c .before .before .before .before .blend-row .ensures) in
     simp add-sub-cancel-left (
       placed-span at (p .columns) (p .rows) (s .args .sums .now) _ (s .pre .1 .1 .0 .in-sums) x y n (q .wide) (q .high) _ _

@@ -1,140 +1,76 @@
--- `arnr::accumulate::blend_planes` meets its contract: each plane takes up room for one frame; U and V are filtered or copied. Assumes nothing.
-use mathlib.Core.Path.{_≡_, sym, _∙_}
+-- `arnr::accumulate::blend_planes` meets its contract: filtered or copied, and added where U and V pass. Assumes nothing.
+use mathlib.Core.Path.{_≡_, sym, ap, _∙_}
 use mathlib.Core.Bool.{Bool, true, false}
-use mathlib.Core.List.{List}
-use Prim.Native.Nat.{ℕ, _+_, _*_, _≤_, _<_}
+use Prim.Native.Nat.{ℕ, _≤_, _<_}
 use lib.IntN.{pos}
 use lib.ListN.{getD}
-use Rattle.window.specs.declared.Frame.{Frame}
-use Rattle.window.specs.Layout.{sideOf, offsetOf, packedSize}
-use Rattle.denoiser.specs.declared.Block.{Block}
-use Rattle.denoiser.specs.declared.Displacement.{Displacement}
 use Rattle.denoiser.specs.Grid.{blockIn}
-use Rattle.denoiser.specs.Search.{displacedBy, displacementIn}
-use Rattle.denoiser.specs.Chroma.{halfSample, sampleIn}
+use Rattle.denoiser.specs.Chroma.{sampleIn}
 use Rattle.denoiser.specs.Window.{gate}
 use Rattle.denoiser.specs.Pictures.{pictureOf}
-use Rattle.denoiser.specs.Internal.{Lent, Slack, Light, Whole, Placed, within, filteredIn, termBy, shareBy, packedPicture}
-use Rattle.denoiser.proofs.Gates.{gate-most}
-use Rattle.denoiser.proofs.Halves.{sample-in-byte, luma-copied, chroma-alike}
-use Rattle.denoiser.proofs.Place.{placed-room, term-most, share-most, term-goes, share-goes}
-use Rattle.denoiser.proofs.Pictures.{picture-byte, by-copies, by-halves}
-use Rattle.denoiser.proofs.Spreads.{spread-three}
+use Rattle.denoiser.specs.Internal.{within, termBy, shareBy, packedPicture, chromaPasses}
+use Rattle.denoiser.proofs.Gates.{gate-on, gate-off}
+use Rattle.denoiser.proofs.Halves.{copied-is, all-copied, filtered-half, square-long}
+use Rattle.denoiser.proofs.Passes.{copies-are, squares-are}
+use Rattle.denoiser.proofs.Pictures.{picture-byte}
+use Rattle.denoiser.proofs.Place.{term-goes, share-goes}
+use Rattle.denoiser.proofs.Spreads.{spread-none, spread-same}
 use native.Mathlib.Omega.{arith}
 use borrow.Author.Needs.{needs}
 use Rattle.arnr.proofs.accumulate.blend_planes.Statement.{statement}
 use Rattle.arnr.proofs.accumulate.blend_planes.Tie as tie
 
--- what one plane leaves of the room and of the lengths
-module _ (bytes : List ℕ) (f : Frame) (b : Block) (d : Displacement) (half : Bool) (curve out : List ℕ) (whole : Whole bytes f) (light : Light curve)
-    (byte : (i : ℕ) → getD bytes i 0 < 256) (k : ℕ) (hk : k < 3) (old sums before weights : List ℕ)
-    (p : Placed (offsetOf k (f .width) (f .height)) (sideOf k (f .width)) (sideOf k (f .height)) (λ x y. gate (within (blockIn k b) x y) (termBy curve (packedPicture (f .width) (f .height) out k) (sampleIn half k d (pictureOf bytes f k)) x y)) old sums)
-    (q : Placed (offsetOf k (f .width) (f .height)) (sideOf k (f .width)) (sideOf k (f .height)) (λ x y. gate (within (blockIn k b) x y) (shareBy curve (packedPicture (f .width) (f .height) out k) (sampleIn half k d (pictureOf bytes f k)) x y)) before weights) where
-  less : (n : ℕ) → Slack (n + 1) old before → Slack n sums weights
-  less n s =
-      record {
-        of-sums =
-            placed-room _ _ _ _ (n * 4080) 4080 _ _ (whole .fits k hk .wide .0) p (λ i j. gate-most _ _ 4080 (term-most curve _ _ light i j (sample-in-byte half k d (pictureOf bytes f k) (picture-byte bytes f byte k) _ _)))
-            (λ i. let r = s .of-sums i in omega arith);
-        of-weights =
-            placed-room _ _ _ _ (n * 16) 16 _ _ (whole .fits k hk .wide .0) q (λ i j. gate-most _ _ 16 (share-most curve _ _ light i j)) (λ i. let r = s .of-weights i in omega arith);
-      }
+-- whether U and V pass, where the code asks of it
+abbrev passes : tie.Start → Bool
+passes s = chromaPasses (s .args .choice) (packedPicture (s .args .f .width) (s .args .f .height) (s .args .out .now)) (pictureOf (s .args .bytes .now) (s .args .f)) (s .args .b) (s .args .d)
 
-  still-lent : Lent (packedSize (f .width) (f .height)) out old before → Lent (packedSize (f .width) (f .height)) out sums weights
-  still-lent l = record { in-out = l .in-out; in-sums = rw (p .long) (l .in-sums); in-weights = rw (q .long) (l .in-weights) }
+squares-tell : (a : tie.After-squares-pass) → a .squares-pass .result ≡ passes (a .before .before .before .before .before .before .before .before .before .before .before)
+squares-tell a =
+    let s = a .before .before .before .before .before .before .before .before .before .before .before in
+    a .squares-pass .ensures
+    ∙ squares-are (s .args .choice) (packedPicture (s .args .f .width) (s .args .f .height) (s .args .out .now)) (s .args .bytes .now) (s .args .f) (s .args .b) (s .args .d) (s .pre .1 .0 .slim) (s .pre .1 .0 .low) _ _
+    (sym (a .before .before .before .before .before .before .filters .ensures) ∙ a .before .before .before .before .before .if1 .taken) (a .before .before .before .before .filtered .ensures) (a .before .before .before .filtered2 .ensures)
 
-fewer : (m n : ℕ) (sums weights : List ℕ) → m ≤ n → Slack n sums weights → Slack m sums weights
-fewer m n sums weights h s = record { of-sums = λ k. let r = s .of-sums k in omega arith; of-weights = λ k. let r = s .of-weights k in omega arith }
-
--- what a plane adds, by the choice
-module _ (s : tie.Start) (k : ℕ) (old now : List ℕ) where
-  copied-terms : filteredIn (s .args .choice .«half_sample») k (s .args .d) ≡ false → ((i : ℕ) → getD (s .args .bytes .now) i 0 < 256)
-      → Placed (offsetOf k (s .args .f .width) (s .args .f .height)) (sideOf k (s .args .f .width)) (sideOf k (s .args .f .height)) (λ x y. gate (within (blockIn k (s .args .b)) x y) (termBy (s .args .curve .now) (packedPicture (s .args .f .width) (s .args .f .height) (s .args .out .now) k) (displacedBy (displacementIn k (s .args .d)) (pictureOf (s .args .bytes .now) (s .args .f) k)) x y)) old now
-      → Placed (offsetOf k (s .args .f .width) (s .args .f .height)) (sideOf k (s .args .f .width)) (sideOf k (s .args .f .height)) (λ x y. gate (within (blockIn k (s .args .b)) x y) (termBy (s .args .curve .now) (packedPicture (s .args .f .width) (s .args .f .height) (s .args .out .now) k) (sampleIn (s .args .choice .«half_sample») k (s .args .d) (pictureOf (s .args .bytes .now) (s .args .f) k)) x y)) old now
-  copied-terms e byte p =
-      by-copies (s .args .choice) (s .args .bytes .now) (s .args .f) k (s .args .b) (s .args .d) (s .args .curve .now) _ _ _ _ old now termBy (term-goes (s .args .curve .now) _) e byte p
-
-  half-terms : filteredIn (s .args .choice .«half_sample») k (s .args .d) ≡ true
-      → Placed (offsetOf k (s .args .f .width) (s .args .f .height)) (sideOf k (s .args .f .width)) (sideOf k (s .args .f .height)) (λ x y. gate (within (blockIn k (s .args .b)) x y) (termBy (s .args .curve .now) (packedPicture (s .args .f .width) (s .args .f .height) (s .args .out .now) k) (halfSample (s .args .d) (pictureOf (s .args .bytes .now) (s .args .f) k)) x y)) old now
-      → Placed (offsetOf k (s .args .f .width) (s .args .f .height)) (sideOf k (s .args .f .width)) (sideOf k (s .args .f .height)) (λ x y. gate (within (blockIn k (s .args .b)) x y) (termBy (s .args .curve .now) (packedPicture (s .args .f .width) (s .args .f .height) (s .args .out .now) k) (sampleIn (s .args .choice .«half_sample») k (s .args .d) (pictureOf (s .args .bytes .now) (s .args .f) k)) x y)) old now
-  half-terms e p =
-      by-halves (s .args .choice) (s .args .bytes .now) (s .args .f) k (s .args .b) (s .args .d) (s .args .curve .now) _ _ _ _ old now termBy (term-goes (s .args .curve .now) _) e p
-
-  copied-shares : filteredIn (s .args .choice .«half_sample») k (s .args .d) ≡ false → ((i : ℕ) → getD (s .args .bytes .now) i 0 < 256)
-      → Placed (offsetOf k (s .args .f .width) (s .args .f .height)) (sideOf k (s .args .f .width)) (sideOf k (s .args .f .height)) (λ x y. gate (within (blockIn k (s .args .b)) x y) (shareBy (s .args .curve .now) (packedPicture (s .args .f .width) (s .args .f .height) (s .args .out .now) k) (displacedBy (displacementIn k (s .args .d)) (pictureOf (s .args .bytes .now) (s .args .f) k)) x y)) old now
-      → Placed (offsetOf k (s .args .f .width) (s .args .f .height)) (sideOf k (s .args .f .width)) (sideOf k (s .args .f .height)) (λ x y. gate (within (blockIn k (s .args .b)) x y) (shareBy (s .args .curve .now) (packedPicture (s .args .f .width) (s .args .f .height) (s .args .out .now) k) (sampleIn (s .args .choice .«half_sample») k (s .args .d) (pictureOf (s .args .bytes .now) (s .args .f) k)) x y)) old now
-  copied-shares e byte p =
-      by-copies (s .args .choice) (s .args .bytes .now) (s .args .f) k (s .args .b) (s .args .d) (s .args .curve .now) _ _ _ _ old now shareBy (share-goes (s .args .curve .now) _) e byte p
-
-  half-shares : filteredIn (s .args .choice .«half_sample») k (s .args .d) ≡ true
-      → Placed (offsetOf k (s .args .f .width) (s .args .f .height)) (sideOf k (s .args .f .width)) (sideOf k (s .args .f .height)) (λ x y. gate (within (blockIn k (s .args .b)) x y) (shareBy (s .args .curve .now) (packedPicture (s .args .f .width) (s .args .f .height) (s .args .out .now) k) (halfSample (s .args .d) (pictureOf (s .args .bytes .now) (s .args .f) k)) x y)) old now
-      → Placed (offsetOf k (s .args .f .width) (s .args .f .height)) (sideOf k (s .args .f .width)) (sideOf k (s .args .f .height)) (λ x y. gate (within (blockIn k (s .args .b)) x y) (shareBy (s .args .curve .now) (packedPicture (s .args .f .width) (s .args .f .height) (s .args .out .now) k) (sampleIn (s .args .choice .«half_sample») k (s .args .d) (pictureOf (s .args .bytes .now) (s .args .f) k)) x y)) old now
-  half-shares e p =
-      by-halves (s .args .choice) (s .args .bytes .now) (s .args .f) k (s .args .b) (s .args .d) (s .args .curve .now) _ _ _ _ old now shareBy (share-goes (s .args .curve .now) _) e p
-
--- after Y
-module _ (a : tie.After-blend-in) where
-  lent-y : Lent (packedSize (a .before .before .before .before .before .before .before .args .f .width) (a .before .before .before .before .before .before .before .args .f .height)) (a .before .before .before .before .before .before .before .args .out .now) (a .blend-in .last .1 .1 .1 .1 .1 .1 .1 .0) (a .blend-in .last .1 .1 .1 .1 .1 .1 .1 .1 .0)
-  lent-y =
-      let s = a .before .before .before .before .before .before .before in
-      still-lent (s .args .bytes .now) (s .args .f) (s .args .b) (s .args .d) (s .args .choice .«half_sample») (s .args .curve .now) (s .args .out .now) (s .pre .0) (s .pre .1 .1 .1 .1 .0) (λ i. omega (arith, a .before .before .before .before .before .before .shared-slice-known .given i)) 0 (omega arith) _ _ _ _ (copied-terms s 0 _ _ (luma-copied _ _) (λ i. omega (arith, a .before .before .before .before .before .before .shared-slice-known .given i)) (a .blend-in .ensures .0)) (copied-shares s 0 _ _ (luma-copied _ _) (λ i. omega (arith, a .before .before .before .before .before .before .shared-slice-known .given i)) (a .blend-in .ensures .1)) (s .pre .1 .1 .1 .0)
-
-  slack-y : Slack 3 (a .blend-in .last .1 .1 .1 .1 .1 .1 .1 .0) (a .blend-in .last .1 .1 .1 .1 .1 .1 .1 .1 .0)
-  slack-y =
-      let s = a .before .before .before .before .before .before .before in
-      less (s .args .bytes .now) (s .args .f) (s .args .b) (s .args .d) (s .args .choice .«half_sample») (s .args .curve .now) (s .args .out .now) (s .pre .0) (s .pre .1 .1 .1 .1 .0) (λ i. omega (arith, a .before .before .before .before .before .before .shared-slice-known .given i)) 0 (omega arith) _ _ _ _ (copied-terms s 0 _ _ (luma-copied _ _) (λ i. omega (arith, a .before .before .before .before .before .before .shared-slice-known .given i)) (a .blend-in .ensures .0)) (copied-shares s 0 _ _ (luma-copied _ _) (λ i. omega (arith, a .before .before .before .before .before .before .shared-slice-known .given i)) (a .blend-in .ensures .1)) 3 (s .pre .1 .1 .1 .1 .1)
-
--- after U, filtered
-module _ (a : tie.After-blend-half) where
-  lent-half : Lent (packedSize (a .before .before .before .before .before .before .before .before .before .before .before .before .before .before .before .before .args .f .width) (a .before .before .before .before .before .before .before .before .before .before .before .before .before .before .before .before .args .f .height)) (a .before .before .before .before .before .before .before .before .before .before .before .before .before .before .before .before .args .out .now) (a .blend-half .last .1 .1 .1 .1 .1 .1 .1 .0) (a .blend-half .last .1 .1 .1 .1 .1 .1 .1 .1 .0)
-  lent-half =
-      let s = a .before .before .before .before .before .before .before .before .before .before .before .before .before .before .before .before in
-      still-lent (s .args .bytes .now) (s .args .f) (s .args .b) (s .args .d) (s .args .choice .«half_sample») (s .args .curve .now) (s .args .out .now) (s .pre .0) (s .pre .1 .1 .1 .1 .0) (λ i. omega (arith, a .before .before .before .before .before .before .before .before .before .before .before .before .before .before .before .shared-slice-known .given i)) 1 (omega arith) _ _ _ _ (half-terms s 1 _ _ (sym (a .before .before .before .before .filters .ensures) ∙ a .before .before .before .if1 .taken) (a .blend-half .ensures .0)) (half-shares s 1 _ _ (sym (a .before .before .before .before .filters .ensures) ∙ a .before .before .before .if1 .taken) (a .blend-half .ensures .1)) (lent-y (a .before .before .before .before .before .before .before .before .before))
-
-  slack-half : Slack 2 (a .blend-half .last .1 .1 .1 .1 .1 .1 .1 .0) (a .blend-half .last .1 .1 .1 .1 .1 .1 .1 .1 .0)
-  slack-half =
-      let s = a .before .before .before .before .before .before .before .before .before .before .before .before .before .before .before .before in
-      less (s .args .bytes .now) (s .args .f) (s .args .b) (s .args .d) (s .args .choice .«half_sample») (s .args .curve .now) (s .args .out .now) (s .pre .0) (s .pre .1 .1 .1 .1 .0) (λ i. omega (arith, a .before .before .before .before .before .before .before .before .before .before .before .before .before .before .before .shared-slice-known .given i)) 1 (omega arith) _ _ _ _ (half-terms s 1 _ _ (sym (a .before .before .before .before .filters .ensures) ∙ a .before .before .before .if1 .taken) (a .blend-half .ensures .0)) (half-shares s 1 _ _ (sym (a .before .before .before .before .filters .ensures) ∙ a .before .before .before .if1 .taken) (a .blend-half .ensures .1)) 2 (slack-y (a .before .before .before .before .before .before .before .before .before))
-
--- after U, copied
-module _ (a : tie.After-blend-in2) where
-  lent-copied : Lent (packedSize (a .before .before .before .before .before .before .before .before .before .before .before .before .before .before .before .before .args .f .width) (a .before .before .before .before .before .before .before .before .before .before .before .before .before .before .before .before .args .f .height)) (a .before .before .before .before .before .before .before .before .before .before .before .before .before .before .before .before .args .out .now) (a .blend-in2 .last .1 .1 .1 .1 .1 .1 .1 .0) (a .blend-in2 .last .1 .1 .1 .1 .1 .1 .1 .1 .0)
-  lent-copied =
-      let s = a .before .before .before .before .before .before .before .before .before .before .before .before .before .before .before .before in
-      still-lent (s .args .bytes .now) (s .args .f) (s .args .b) (s .args .d) (s .args .choice .«half_sample») (s .args .curve .now) (s .args .out .now) (s .pre .0) (s .pre .1 .1 .1 .1 .0) (λ i. omega (arith, a .before .before .before .before .before .before .before .before .before .before .before .before .before .before .before .shared-slice-known .given i)) 1 (omega arith) _ _ _ _ (copied-terms s 1 _ _ (sym (a .before .before .before .before .filters .ensures) ∙ a .before .before .before .if1 .left) (λ i. omega (arith, a .before .before .before .before .before .before .before .before .before .before .before .before .before .before .before .shared-slice-known .given i)) (a .blend-in2 .ensures .0)) (copied-shares s 1 _ _ (sym (a .before .before .before .before .filters .ensures) ∙ a .before .before .before .if1 .left) (λ i. omega (arith, a .before .before .before .before .before .before .before .before .before .before .before .before .before .before .before .shared-slice-known .given i)) (a .blend-in2 .ensures .1)) (lent-y (a .before .before .before .before .before .before .before .before .before))
-
-  slack-copied : Slack 2 (a .blend-in2 .last .1 .1 .1 .1 .1 .1 .1 .0) (a .blend-in2 .last .1 .1 .1 .1 .1 .1 .1 .1 .0)
-  slack-copied =
-      let s = a .before .before .before .before .before .before .before .before .before .before .before .before .before .before .before .before in
-      less (s .args .bytes .now) (s .args .f) (s .args .b) (s .args .d) (s .args .choice .«half_sample») (s .args .curve .now) (s .args .out .now) (s .pre .0) (s .pre .1 .1 .1 .1 .0) (λ i. omega (arith, a .before .before .before .before .before .before .before .before .before .before .before .before .before .before .before .shared-slice-known .given i)) 1 (omega arith) _ _ _ _ (copied-terms s 1 _ _ (sym (a .before .before .before .before .filters .ensures) ∙ a .before .before .before .if1 .left) (λ i. omega (arith, a .before .before .before .before .before .before .before .before .before .before .before .before .before .before .before .shared-slice-known .given i)) (a .blend-in2 .ensures .0)) (copied-shares s 1 _ _ (sym (a .before .before .before .before .filters .ensures) ∙ a .before .before .before .if1 .left) (λ i. omega (arith, a .before .before .before .before .before .before .before .before .before .before .before .before .before .before .before .shared-slice-known .given i)) (a .blend-in2 .ensures .1)) 2 (slack-y (a .before .before .before .before .before .before .before .before .before))
-
-blend-in-requires : tie.Need-blend-in-requires
-blend-in-requires c κs =
-    let s = c .before .before .before .before .before .before in
-    ((omega arith, s .pre .0), (s .pre .1 .0, (s .pre .1 .1 .0, (s .pre .1 .1 .1 .0, (s .pre .1 .1 .1 .1 .0, fewer 2 4 _ _ (omega arith) (s .pre .1 .1 .1 .1 .1))))))
+copies-tell : (a : tie.After-copies-pass) → a .copies-pass .result ≡ passes (a .before .before .before .before .before .before .before)
+copies-tell a =
+    let s = a .before .before .before .before .before .before .before in
+    a .copies-pass .ensures
+    ∙ copies-are (s .args .choice) (packedPicture (s .args .f .width) (s .args .f .height) (s .args .out .now)) (s .args .bytes .now) (s .args .f) (s .args .b) (s .args .d)
+    (sym (a .before .before .filters .ensures) ∙ a .before .if1 .left) (λ i. omega (arith, a .before .before .before .before .before .before .shared-slice-known .given i))
 
 filters-requires : tie.Need-filters-requires
-filters-requires c κs = c .before .before .before .before .before .before .before .before .before .before .before .pre .1 .1 .0
+filters-requires c κs = c .before .before .before .before .pre .1 .1 .0
 
-blend-half-requires : tie.Need-blend-half-requires
-blend-half-requires c κs =
-    let s = c .before .before .before .before .before .before .before .before .before .before .before .before .before .before .before in
-    ((omega arith, omega arith, s .pre .0), (s .pre .1 .0, (s .pre .1 .1 .0, (lent-y (c .before .before .before .before .before .before .before .before), (s .pre .1 .1 .1 .1 .0, fewer 2 3 _ _ (omega arith) (slack-y (c .before .before .before .before .before .before .before .before)))))))
+filtered-requires : tie.Need-filtered-requires
+filtered-requires c κs = let s = c .before .before .before .before .before .before in ((omega arith, s .pre .0), (s .pre .1 .0, s .pre .1 .1 .0))
 
-blend-half-requires-2 : tie.Need-blend-half-requires-2
-blend-half-requires-2 c κs =
-    let s = c .before .before .before .before .before .before .before .before .before .before .before .before .before .before .before .before .before .before .before .before .before .before in
-    ((omega arith, omega arith, s .pre .0), (s .pre .1 .0, (s .pre .1 .1 .0, (lent-half (c .before .before .before .before .before .before), (s .pre .1 .1 .1 .1 .0, slack-half (c .before .before .before .before .before .before))))))
+filtered-requires-2 : tie.Need-filtered-requires-2
+filtered-requires-2 c κs = let s = c .before .before .before .before .before .before .before in ((omega arith, s .pre .0), (s .pre .1 .0, s .pre .1 .1 .0))
 
-blend-in-requires-2 : tie.Need-blend-in-requires-2
-blend-in-requires-2 c κs =
-    let s = c .before .before .before .before .before .before .before .before .before .before .before .before .before .before .before in
-    ((omega arith, s .pre .0), (s .pre .1 .0, (s .pre .1 .1 .0, (lent-y (c .before .before .before .before .before .before .before .before), (s .pre .1 .1 .1 .1 .0, fewer 2 3 _ _ (omega arith) (slack-y (c .before .before .before .before .before .before .before .before)))))))
+slice-aggregate-squares-pass : tie.Need-slice-aggregate-squares-pass
+slice-aggregate-squares-pass c = search needs
 
-blend-in-requires-3 : tie.Need-blend-in-requires-3
-blend-in-requires-3 c κs =
-    let s = c .before .before .before .before .before .before .before .before .before .before .before .before .before .before .before .before .before .before .before .before .before .before in
-    ((omega arith, s .pre .0), (s .pre .1 .0, (s .pre .1 .1 .0, (lent-copied (c .before .before .before .before .before .before), (s .pre .1 .1 .1 .1 .0, slack-copied (c .before .before .before .before .before .before))))))
+slice-aggregate-squares-pass-2 : tie.Need-slice-aggregate-squares-pass-2
+slice-aggregate-squares-pass-2 c = search needs
+
+squares-pass-requires : tie.Need-squares-pass-requires
+squares-pass-requires c κs =
+    let s = c .before .before .before .before .before .before .before .before .before .before in
+    let f = s .pre .0 .fits 0 (omega arith) in (
+      (omega (arith, c .before .before .before .filtered .ok), omega (arith, c .before .before .filtered2 .ok), f .wide .1, f .high .1),
+      (s .pre .1 .0, s .pre .1 .1 .1 .0 .in-out),
+    )
+
+slice-aggregate-blend-filtered : tie.Need-slice-aggregate-blend-filtered
+slice-aggregate-blend-filtered c = search needs
+
+slice-aggregate-blend-filtered-2 : tie.Need-slice-aggregate-blend-filtered-2
+slice-aggregate-blend-filtered-2 c = search needs
+
+blend-filtered-requires : tie.Need-blend-filtered-requires
+blend-filtered-requires c κs =
+    let s = c .before .before .before .before .before .before .before .before .before .before .before .before .before .before .before .before in
+    (s .pre .0, (s .pre .1 .0, (s .pre .1 .1 .0, (c .before .before .before .before .before .before .before .before .before .filtered .ensures, (c .before .before .before .before .before .before .before .before .filtered2 .ensures, s .pre .1 .1 .1)))))
 
 same-length : tie.Need-same-length
 same-length c = search needs
@@ -144,18 +80,36 @@ same-length-2 c = search needs
 
 returns : tie.Need-returns
 returns c =
-    let s = c .before .before .before .before .before .before .before .before .before .before .before .before .before .before .before .before .before .before .before .before .before .before .before .before .before .before .before in
+    let s = c .before .before .before .before .before .before .before .before .before .before .before .before .before .before .before .before .before .before .before .before .before in
     let w = s .args .f .width in
     let h = s .args .f .height in
-    let byte : (i : ℕ) → getD (s .args .bytes .now) i 0 < 256 = λ i. omega (arith, c .before .before .before .before .before .before .before .before .before .before .before .before .before .before .before .before .before .before .before .before .before .before .before .before .before .before .shared-slice-known .given i) in
-    let y = c .before .before .before .before .before .before .before .before .before .before .before .before .before .before .before .before .before .before .before .before .blend-in .ensures in
-    let u = c .before .before .before .before .before .before .before .before .before .before .before .blend-half .ensures in
-    let v = c .before .before .before .before .blend-half2 .ensures in
-    let first = sym (c .before .before .before .before .before .before .before .before .before .before .before .before .before .before .before .filters .ensures) ∙ c .before .before .before .before .before .before .before .before .before .before .before .before .before .before .if1 .taken in
-    let second = sym (chroma-alike (s .args .choice .«half_sample») (s .args .d)) ∙ first in (
-      spread-three w h _ (copied-terms s 0 _ _ (luma-copied _ _) byte (y .0)) (half-terms s 1 _ _ first (u .0)) (half-terms s 2 _ _ second (v .0)),
-      spread-three w h _ (copied-shares s 0 _ _ (luma-copied _ _) byte (y .1)) (half-shares s 1 _ _ first (u .1)) (half-shares s 2 _ _ second (v .1)),
+    let curve = s .args .curve .now in
+    let out = s .args .out .now in
+    let picture = pictureOf (s .args .bytes .now) (s .args .f) in
+    let yes : passes s ≡ true = sym (squares-tell (c .before .before .before .before .before .before .before .before .before .before)) ∙ c .before .before .before .before .before .before .before .before .before .if2 .taken in
+    let half = sym (filtered-half (s .args .choice .«half_sample») 1 (s .args .d) (sym (c .before .before .before .before .before .before .before .before .before .before .before .before .before .before .before .before .filters .ensures) ∙ c .before .before .before .before .before .before .before .before .before .before .before .before .before .before .before .if1 .taken)) in
+    let done = c .before .before .before .before .blend-filtered .ensures in (
+      sym (gate-on (passes s) 1 yes),
+      (
+        spread-same w h _ (done .0) (λ k x y hk hx hy.
+            ap (λ (t : Bool). gate (within (blockIn k (s .args .b)) x y) (termBy curve (packedPicture w h out k) (sampleIn t k (s .args .d) (picture k)) x y)) half ∙ sym (gate-on (passes s) _ yes)),
+        spread-same w h _ (done .1) (λ k x y hk hx hy.
+            ap (λ (t : Bool). gate (within (blockIn k (s .args .b)) x y) (shareBy curve (packedPicture w h out k) (sampleIn t k (s .args .d) (picture k)) x y)) half ∙ sym (gate-on (passes s) _ yes)),
+      ),
     )
+
+returns-2 : tie.Need-returns-2
+returns-2 c =
+    let s = c .before .before .before .before .before .before .before .before .before .before .before .before in
+    let none : passes s ≡ false = sym (squares-tell (c .before)) ∙ c .if2 .left in
+    let shut : (v : ℕ) → gate (passes s) v ≡ 0 = λ v. ap (λ (t : Bool). gate t v) none ∙ gate-off v in
+    (sym (shut 1), (spread-none _ _ _ _ (λ k x y hx hy. shut _), spread-none _ _ _ _ (λ k x y hx hy. shut _)))
+
+copies-pass-requires : tie.Need-copies-pass-requires
+copies-pass-requires c κs = let s = c .before .before .before .before .before .before in (s .pre .0, (s .pre .1 .0, (s .pre .1 .1 .0, s .pre .1 .1 .1 .0 .in-out)))
+
+blend-copied-requires : tie.Need-blend-copied-requires
+blend-copied-requires c κs = c .before .before .before .before .before .before .before .before .before .before .pre
 
 same-length-3 : tie.Need-same-length-3
 same-length-3 c = search needs
@@ -163,34 +117,53 @@ same-length-3 c = search needs
 same-length-4 : tie.Need-same-length-4
 same-length-4 c = search needs
 
-returns-2 : tie.Need-returns-2
-returns-2 c =
-    let s = c .before .before .before .before .before .before .before .before .before .before .before .before .before .before .before .before .before .before .before .before .before .before .before .before .before .before .before in
+returns-3 : tie.Need-returns-3
+returns-3 c =
+    let s = c .before .before .before .before .before .before .before .before .before .before .before .before .before .before .before in
     let w = s .args .f .width in
     let h = s .args .f .height in
-    let byte : (i : ℕ) → getD (s .args .bytes .now) i 0 < 256 = λ i. omega (arith, c .before .before .before .before .before .before .before .before .before .before .before .before .before .before .before .before .before .before .before .before .before .before .before .before .before .before .shared-slice-known .given i) in
-    let y = c .before .before .before .before .before .before .before .before .before .before .before .before .before .before .before .before .before .before .before .before .blend-in .ensures in
-    let u = c .before .before .before .before .before .before .before .before .before .before .before .blend-in2 .ensures in
-    let v = c .before .before .before .before .blend-in3 .ensures in
-    let first = sym (c .before .before .before .before .before .before .before .before .before .before .before .before .before .before .before .filters .ensures) ∙ c .before .before .before .before .before .before .before .before .before .before .before .before .before .before .if1 .left in
-    let second = sym (chroma-alike (s .args .choice .«half_sample») (s .args .d)) ∙ first in (
-      spread-three w h _ (copied-terms s 0 _ _ (luma-copied _ _) byte (y .0)) (copied-terms s 1 _ _ first byte (u .0)) (copied-terms s 2 _ _ second byte (v .0)),
-      spread-three w h _ (copied-shares s 0 _ _ (luma-copied _ _) byte (y .1)) (copied-shares s 1 _ _ first byte (u .1)) (copied-shares s 2 _ _ second byte (v .1)),
+    let half = s .args .choice .«half_sample» in
+    let picture = pictureOf (s .args .bytes .now) (s .args .f) in
+    let yes : passes s ≡ true = sym (copies-tell (c .before .before .before .before .before .before .before .before)) ∙ c .before .before .before .before .before .before .before .if3 .taken in
+    let copied = all-copied half (s .args .d) (sym (c .before .before .before .before .before .before .before .before .before .before .filters .ensures) ∙ c .before .before .before .before .before .before .before .before .before .if1 .left) in
+    let byte : (i : ℕ) → getD (s .args .bytes .now) i 0 < 256 = λ i. omega (arith, c .before .before .before .before .before .before .before .before .before .before .before .before .before .before .shared-slice-known .given i) in
+    let done = c .before .before .before .before .blend-copied .ensures in (
+      sym (gate-on (passes s) 1 yes),
+      (
+        spread-same w h _ (done .0) (λ k x y hk hx hy.
+            ap (gate (within (blockIn k (s .args .b)) x y)) (term-goes (s .args .curve .now) _ _ _ x y (sym (copied-is half k (s .args .d) (picture k) (copied k) (picture-byte (s .args .bytes .now) (s .args .f) byte k) (pos x) (pos y)))) ∙ sym (gate-on (passes s) _ yes)),
+        spread-same w h _ (done .1) (λ k x y hk hx hy.
+            ap (gate (within (blockIn k (s .args .b)) x y)) (share-goes (s .args .curve .now) _ _ _ x y (sym (copied-is half k (s .args .d) (picture k) (copied k) (picture-byte (s .args .bytes .now) (s .args .f) byte k) (pos x) (pos y)))) ∙ sym (gate-on (passes s) _ yes)),
+      ),
     )
+
+returns-4 : tie.Need-returns-4
+returns-4 c =
+    let s = c .before .before .before .before .before .before .before .before in
+    let none : passes s ≡ false = sym (copies-tell (c .before)) ∙ c .if3 .left in
+    let shut : (v : ℕ) → gate (passes s) v ≡ 0 = λ v. ap (λ (t : Bool). gate t v) none ∙ gate-off v in
+    (sym (shut 1), (spread-none _ _ _ _ (λ k x y hx hy. shut _), spread-none _ _ _ _ (λ k x y hx hy. shut _)))
 
 pub blend-planes-spec : {M : Type 1} → statement M
 blend-planes-spec =
     tie.close
     (tie.spec
-    blend-in-requires
     filters-requires
-    blend-half-requires
-    blend-half-requires-2
-    blend-in-requires-2
-    blend-in-requires-3
+    filtered-requires
+    filtered-requires-2
+    slice-aggregate-squares-pass
+    slice-aggregate-squares-pass-2
+    squares-pass-requires
+    slice-aggregate-blend-filtered
+    slice-aggregate-blend-filtered-2
+    blend-filtered-requires
     same-length
     same-length-2
     returns
+    returns-2
+    copies-pass-requires
+    blend-copied-requires
     same-length-3
     same-length-4
-    returns-2)
+    returns-3
+    returns-4)
