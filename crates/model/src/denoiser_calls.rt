@@ -3,6 +3,7 @@ use numbers::answers::Build;
 use weights::ArnrConfig;
 use window::Frame;
 ghost use mathlib.Core.Path.{_≡_};
+ghost use mathlib.Core.Bool.{true, false};
 ghost use Prim.Native.Nat.{min};
 ghost use Rattle.laws.specs.Tabulate.{tabulate};
 ghost use Rattle.weights.specs.Weights.{scale, weightRead};
@@ -10,7 +11,7 @@ ghost use Rattle.weights.specs.Blend.{distanceBound};
 ghost use Rattle.window.specs.Frames.{frameCount, frameAt};
 ghost use Rattle.window.specs.Refusals.{given, checks};
 ghost use Rattle.denoiser.specs.Window.{arnrRule};
-ghost use Rattle.denoiser.specs.Chroma.{halfRule};
+ghost use Rattle.denoiser.specs.Chroma.{halfRule, threeRule};
 ghost use Rattle.denoiser.specs.Build.{asked};
 ghost use Rattle.altref.specs.Records.{flat};
 ghost use Rattle.numbers.specs.Answers.{checkNumbers};
@@ -180,5 +181,79 @@ pub extern "C" fn vp8model_build_half_sample(
 {
     let config = ArnrConfig { strength: strength };
     let answer = arnr::build_half_sample(bytes, numbers, centre, config, output, sums, weights);
+    numbers::build_numbers(answer)
+}
+
+#[no_mangle]
+pub extern "C" fn vp8model_build_three_planes(
+    bytes: &[u8],
+    numbers: &[u32],
+    centre: usize,
+    strength: u8,
+    output: &mut [u8],
+    sums: &mut [u32],
+    weights: &mut [u32],
+) -> Build
+    ensures { λ r. ⌜ BuildExport (threeRule false) (record {
+      request = asked (now (bytes .entry)) (now (numbers .entry)) centre strength;
+      lent = record {
+        output = now (output .entry);
+        sums = now (sums .entry);
+        weights = now (weights .entry);
+      };
+    }) r (record {
+      output = now (output .exit);
+      sums = now (sums .exit);
+      weights = now (weights .exit);
+    }) ⌝ }
+{
+    let config = ArnrConfig { strength: strength };
+    let answer = arnr::build_three_planes(
+        bytes,
+        numbers,
+        centre,
+        config,
+        false,
+        output,
+        sums,
+        weights,
+    );
+    numbers::build_numbers(answer)
+}
+
+#[no_mangle]
+pub extern "C" fn vp8model_build_three_planes_half_sample(
+    bytes: &[u8],
+    numbers: &[u32],
+    centre: usize,
+    strength: u8,
+    output: &mut [u8],
+    sums: &mut [u32],
+    weights: &mut [u32],
+) -> Build
+    ensures { λ r. ⌜ BuildExport (threeRule true) (record {
+      request = asked (now (bytes .entry)) (now (numbers .entry)) centre strength;
+      lent = record {
+        output = now (output .entry);
+        sums = now (sums .entry);
+        weights = now (weights .entry);
+      };
+    }) r (record {
+      output = now (output .exit);
+      sums = now (sums .exit);
+      weights = now (weights .exit);
+    }) ⌝ }
+{
+    let config = ArnrConfig { strength: strength };
+    let answer = arnr::build_three_planes(
+        bytes,
+        numbers,
+        centre,
+        config,
+        true,
+        output,
+        sums,
+        weights,
+    );
     numbers::build_numbers(answer)
 }
