@@ -10,7 +10,8 @@ use Rattle.window.specs.declared.Frame.{Frame}
 use Rattle.window.specs.Frames.{numbersPerFrame, zeroFrame}
 use Rattle.denoiser.specs.declared.BuildAnswer.{BuildAnswer}
 use Rattle.denoiser.specs.Demand.{Held}
-use Rattle.denoiser.specs.Build.{asked, BuildIs}
+use Rattle.denoiser.specs.Window.{Other, Scene, Rule, arnrRule}
+use Rattle.denoiser.specs.Build.{asked, BuildBy}
 use Rattle.altref.specs.Records.{numbersOf}
 
 -- the most frames that are not refused, and the size of the array that holds the numbers of so many
@@ -42,7 +43,11 @@ takenOf count = cond (leb count maxFrames) count 0
 abbrev pub Begins : List ℕ → List ℕ → ℕ → Type 0
 Begins xs numbers count = (length xs ≡ count * numbersPerFrame) × (count ≤ maxFrames → take (count * numbersPerFrame) numbers ≡ xs)
 
--- what is promised over an array and a count: what a builder promises over any list of numbers that the array begins with
+-- what is promised over an array and a count, under a rule: what a builder promises over any list of numbers that the array begins with
+abbrev pub OverArrayBy : (Scene → Rule Other) → List ℕ → List ℕ → ℕ → ℕ → ℕ → Held → BuildAnswer → Held → Type 0
+OverArrayBy rule bytes numbers count centre strength lent r held =
+    (xs : List ℕ) → Begins xs numbers count → BuildBy rule (record { request = asked bytes xs centre strength; lent = lent }) r held
+
+-- the same of the first builder
 abbrev pub OverArray : List ℕ → List ℕ → ℕ → ℕ → ℕ → Held → BuildAnswer → Held → Type 0
-OverArray bytes numbers count centre strength lent r held =
-    (xs : List ℕ) → Begins xs numbers count → BuildIs (record { request = asked bytes xs centre strength; lent = lent }) r held
+OverArray bytes numbers count centre strength lent r held = OverArrayBy arnrRule bytes numbers count centre strength lent r held

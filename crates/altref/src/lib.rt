@@ -1,5 +1,6 @@
-// The builder over a lent slice of frame records: their numbers are taken into an array, and handed to the builder over numbers.
+// The builders over a lent slice of frame records: their numbers are taken into an array, and handed to the builders over numbers.
 use denoiser::BuildAnswer;
+use denoiser::Choice;
 use weights::ArnrConfig;
 use window::Frame;
 use window::NUMBERS_PER_FRAME;
@@ -7,9 +8,10 @@ use window::Refusal;
 ghost use mathlib.Core.Path.{_≡_};
 ghost use Prim.Native.Nat.{_<_, _≤_};
 ghost use lib.ListN.{length, replicate};
-ghost use Rattle.denoiser.specs.Build.{asked, BuildIs};
+ghost use Rattle.denoiser.specs.Chroma.{ruleOf};
+ghost use Rattle.denoiser.specs.Build.{asked, BuildBy, BuildIs};
 ghost use Rattle.altref.specs.Records.{flat};
-ghost use Rattle.altref.specs.Internal.{maxFrames, arraySize, putFrame, filled, takenOf, OverArray};
+ghost use Rattle.altref.specs.Internal.{maxFrames, arraySize, putFrame, filled, takenOf, OverArray, OverArrayBy};
 
 // The most frames that are not refused, and the numbers of so many.
 const MAX_FRAMES: usize = 1024;
@@ -69,8 +71,49 @@ fn taken(count: usize) -> usize
     if count <= MAX_FRAMES { count } else { 0 }
 }
 
-// The builder over an array that begins with the numbers of `count` frames, where these are not too many.
+// A builder, by its choice, over an array that begins with the numbers of `count` frames, where these are not too many.
 // The centre is tested first and the count second, both before the array is read.
+fn core_by(
+    bytes: &[u8],
+    numbers: [u32; ARRAY_SIZE],
+    count: usize,
+    centre: usize,
+    config: ArnrConfig,
+    choice: Choice,
+    output: &mut [u8],
+    sums: &mut [u32],
+    weights: &mut [u32],
+) -> BuildAnswer
+    ensures { λ r. ⌜ OverArrayBy (ruleOf choice) (now (bytes .entry)) numbers count centre (config .strength) (record {
+      output = now (output .entry);
+      sums = now (sums .entry);
+      weights = now (weights .entry);
+    }) r (record {
+      output = now (output .exit);
+      sums = now (sums .exit);
+      weights = now (weights .exit);
+    }) ⌝ }
+{
+    if count <= centre {
+        return BuildAnswer::Refused(Refusal::NoCentre);
+    }
+    if MAX_FRAMES < count {
+        return BuildAnswer::Refused(Refusal::TooManyFrames);
+    }
+    let n = count * NUMBERS_PER_FRAME;
+    arnr::build_by(
+        bytes,
+        &numbers[..n],
+        centre,
+        config,
+        choice,
+        output,
+        sums,
+        weights,
+    )
+}
+
+// The first builder over such an array.
 fn core_of(
     bytes: &[u8],
     numbers: [u32; ARRAY_SIZE],
@@ -91,14 +134,21 @@ fn core_of(
       weights = now (weights .exit);
     }) ⌝ }
 {
-    if count <= centre {
-        return BuildAnswer::Refused(Refusal::NoCentre);
-    }
-    if MAX_FRAMES < count {
-        return BuildAnswer::Refused(Refusal::TooManyFrames);
-    }
-    let n = count * NUMBERS_PER_FRAME;
-    arnr::build_from_numbers(bytes, &numbers[..n], centre, config, output, sums, weights)
+    let whole = Choice {
+        half_sample: false,
+        three_planes: false,
+    };
+    core_by(
+        bytes,
+        numbers,
+        count,
+        centre,
+        config,
+        whole,
+        output,
+        sums,
+        weights,
+    )
 }
 
 // The builder over frame records.
@@ -128,4 +178,44 @@ pub fn build_arnr_altref(
     let n = taken(count);
     let numbers = flatten(frames, n);
     core_of(bytes, numbers, count, centre, config, output, sums, weights)
+}
+
+// Every builder, by its choice, over frame records.
+pub fn build_altref_by(
+    bytes: &[u8],
+    frames: &[Frame],
+    centre: usize,
+    config: ArnrConfig,
+    choice: Choice,
+    output: &mut [u8],
+    sums: &mut [u32],
+    weights: &mut [u32],
+) -> BuildAnswer
+    ensures { λ r. ⌜ BuildBy (ruleOf choice) (record {
+      request = asked (now (bytes .entry)) (flat (now (frames .entry))) centre (config .strength);
+      lent = record {
+        output = now (output .entry);
+        sums = now (sums .entry);
+        weights = now (weights .entry);
+      };
+    }) r (record {
+      output = now (output .exit);
+      sums = now (sums .exit);
+      weights = now (weights .exit);
+    }) ⌝ }
+{
+    let count = frames.len();
+    let n = taken(count);
+    let numbers = flatten(frames, n);
+    core_by(
+        bytes,
+        numbers,
+        count,
+        centre,
+        config,
+        choice,
+        output,
+        sums,
+        weights,
+    )
 }

@@ -1,31 +1,34 @@
-// Frame records in an array: the first of them are lent to the builder over records.
+// Frame records in an array: the first of them are lent to a builder over records.
 use denoiser::BuildAnswer;
+use denoiser::Choice;
 use weights::ArnrConfig;
 use window::Frame;
 ghost use mathlib.Core.Path.{_≡_};
 ghost use Prim.Native.Nat.{_≤_, min};
 ghost use lib.ListN.{take};
 ghost use Rattle.window.specs.Frames.{frameCount};
-ghost use Rattle.denoiser.specs.Build.{asked, BuildIs};
+ghost use Rattle.denoiser.specs.Chroma.{ruleOf};
+ghost use Rattle.denoiser.specs.Build.{asked, BuildBy};
 ghost use Rattle.altref.specs.Records.{flat};
 ghost use Rattle.framelist.specs.Lists.{arrayRecords, Listed};
 
 // The records of the array: one more than the most that are not refused.
 pub const ARRAY_RECORDS: usize = 1025;
 
-// The builder over the first n records.
+// A builder, by its choice, over the first n records.
 fn lend(
     bytes: &[u8],
     frames: [Frame; ARRAY_RECORDS],
     n: usize,
     centre: usize,
     config: ArnrConfig,
+    choice: Choice,
     output: &mut [u8],
     sums: &mut [u32],
     weights: &mut [u32],
 ) -> BuildAnswer
     requires { ⌜ n ≤ arrayRecords ⌝ }
-    ensures { λ r. ⌜ BuildIs (record {
+    ensures { λ r. ⌜ BuildBy (ruleOf choice) (record {
       request = asked (now (bytes .entry)) (flat (take n frames)) centre (config .strength);
       lent = record {
         output = now (output .entry);
@@ -38,7 +41,16 @@ fn lend(
       weights = now (weights .exit);
     }) ⌝ }
 {
-    altref::build_arnr_altref(bytes, &frames[..n], centre, config, output, sums, weights)
+    altref::build_altref_by(
+        bytes,
+        &frames[..n],
+        centre,
+        config,
+        choice,
+        output,
+        sums,
+        weights,
+    )
 }
 
 // How many of `count` records the array holds.
@@ -52,18 +64,19 @@ fn held(count: usize) -> usize
     }
 }
 
-// The builder over the first `count` records, over all where there are no more.
+// A builder, by its choice, over the first `count` records, over all where there are no more.
 pub fn build_of(
     bytes: &[u8],
     frames: [Frame; ARRAY_RECORDS],
     count: usize,
     centre: usize,
     config: ArnrConfig,
+    choice: Choice,
     output: &mut [u8],
     sums: &mut [u32],
     weights: &mut [u32],
 ) -> BuildAnswer
-    ensures { λ r. ⌜ BuildIs (record {
+    ensures { λ r. ⌜ BuildBy (ruleOf choice) (record {
       request = asked (now (bytes .entry)) (flat (take count frames)) centre (config .strength);
       lent = record {
         output = now (output .entry);
@@ -77,7 +90,17 @@ pub fn build_of(
     }) ⌝ }
 {
     let n = held(count);
-    lend(bytes, frames, n, centre, config, output, sums, weights)
+    lend(
+        bytes,
+        frames,
+        n,
+        centre,
+        config,
+        choice,
+        output,
+        sums,
+        weights,
+    )
 }
 
 // The frames that are given as numbers, as records: as many as the array holds.
