@@ -16,7 +16,7 @@ ghost use Rattle.prediction.specs.Plane.{sampleAt, nearestIn};
 ghost use Rattle.prediction.specs.Ceiled.{CeiledIs};
 ghost use Rattle.prediction.specs.Internal.{rowApart};
 ghost use Rattle.denoiser.specs.Search.{displacedBy, still};
-ghost use Rattle.denoiser.specs.Internal.{Fits, Short, Span, Near, Runs, Lies, planeIn, packedPlane, rowDistance, lumaRow};
+ghost use Rattle.denoiser.specs.Internal.{Fits, Short, Span, Near, Runs, Lies, planeIn, packedPlane, rowDistance, lumaRow, sadRow, eightApart};
 
 // The coordinate nearest to x + d among 0 .. n - 1.
 fn edge(x: usize, d: i32, n: usize) -> usize
@@ -400,4 +400,109 @@ pub(crate) fn still_sad(
         }
     }
     edge_sad(bytes, p, b, Displacement { dx: 0, dy: 0 }, centre, ceiling)
+}
+
+// The SAD of two rows of 8.
+fn sad8(a: &[u8], b: &[u8]) -> u32
+    requires { ⌜ (length (now a) ≡ 8) × (length (now b) ≡ 8) ⌝ }
+    ensures { λ r. ⌜ r ≡ sumBelow (rowDistance (now (a .entry)) (now (b .entry))) 8 ⌝ }
+{
+    let mut sum: u32 = 0;
+    let mut k = 0;
+    while k < 8 {
+        sum += difference(a[k], b[k]);
+        k += 1;
+    }
+    sum
+}
+
+// The SAD of row r of two blocks of 8 columns.
+fn eight_at(
+    a: &[u8],
+    at: usize,
+    stride: usize,
+    b: &[u8],
+    from: usize,
+    across: usize,
+    r: usize,
+) -> u32
+    requires { ⌜ (at + r * stride + 8 ≤ length (now a)) × (from + r * across + 8 ≤ length (now b)) ⌝ }
+    ensures { λ s. ⌜ s ≡ eightApart (now (a .entry)) at stride (now (b .entry)) from across r ⌝ }
+{
+    let i = at + r * stride;
+    let j = from + r * across;
+    sad8(&a[i..i + 8], &b[j..j + 8])
+}
+
+// The SAD of two blocks of 8 columns up to a ceiling.
+pub(crate) fn eight_sad(
+    a: &[u8],
+    at: usize,
+    stride: usize,
+    b: &[u8],
+    from: usize,
+    across: usize,
+    high: usize,
+    ceiling: u32,
+) -> Ceiled
+    requires { ⌜ ((r : ℕ) → r < high → (at + r * stride + 8 ≤ length (now a)) × (from + r * across + 8 ≤ length (now b))) × (high ≤ 16) ⌝ }
+    ensures { λ r. ⌜ CeiledIs (eightApart (now (a .entry)) at stride (now (b .entry)) from across) high ceiling r ⌝ }
+{
+    let mut left = ceiling;
+    let mut r: usize = 0;
+    while r < high {
+        let row = eight_at(a, at, stride, b, from, across, r);
+        r += 1;
+        if left <= row {
+            return Ceiled {
+                sad: ceiling,
+                rows: r as u32,
+            };
+        }
+        left -= row;
+    }
+    Ceiled {
+        sad: ceiling - left,
+        rows: high as u32,
+    }
+}
+
+// The SAD of a block of a plane that stands packed from `at` on and the displaced block of another frame's, up to a ceiling: 8
+// columns in bounds from the rows of the plane, others row by row. `block_sad` is left to the search, which inlines it.
+pub(crate) fn copied_sad(
+    bytes: &[u8],
+    p: PlaneNumbers,
+    b: Block,
+    d: Displacement,
+    at: usize,
+    out: &[u8],
+    ceiling: u32,
+) -> Ceiled
+    requires { ⌜ Fits (now bytes) p ⌝ }
+    requires { ⌜ Lies b (p .columns) (p .rows) ⌝ }
+    requires { ⌜ Short d ⌝ }
+    requires { ⌜ at + p .columns * p .rows ≤ length (now out) ⌝ }
+    ensures { λ r. ⌜ CeiledIs (sadRow (sampleAt (packedPlane at (p .columns) (p .rows) (now (out .entry)))) (displacedBy d (sampleAt
+        (planeIn (now (bytes .entry)) p))) b) (b .rows) ceiling r ⌝ }
+{
+    if b.columns == 8 {
+        if runs_inside(b.x, 8, d.dx, p.columns) {
+            if runs_inside(b.y, b.rows, d.dy, p.rows) {
+                let left = edge(b.x, d.dx, p.columns);
+                let top = edge(b.y, d.dy, p.rows);
+                let from = p.start + top * p.stride + left;
+                return eight_sad(
+                    out,
+                    at + b.y * p.columns + b.x,
+                    p.columns,
+                    bytes,
+                    from,
+                    p.stride,
+                    b.rows,
+                    ceiling,
+                );
+            }
+        }
+    }
+    edge_sad(bytes, p, b, d, &out[at..], ceiling)
 }

@@ -41,7 +41,7 @@ fn copied_passes(bytes: &[u8], f: Frame, k: usize, b: Block, d: Displacement, ou
     let c = accumulate::block_in(k, b);
     let e = accumulate::displacement_in(k, d);
     let ceiling = limit(c);
-    let read = sad::block_sad(bytes, p, c, e, &out[at..], ceiling);
+    let read = sad::copied_sad(bytes, p, c, e, at, out, ceiling);
     read.sad < ceiling
 }
 
@@ -60,15 +60,8 @@ fn line_sad(block: &[u8], p: PlaneNumbers, b: Block, r: usize, at: usize, out: &
     sad::short_row_sad(&out[from..to], &block[first..first + n])
 }
 
-// The SAD of a block of 8 by 8, as much of it as b covers, up to a ceiling.
-fn filtered_sad(
-    block: &[u8],
-    p: PlaneNumbers,
-    b: Block,
-    at: usize,
-    out: &[u8],
-    ceiling: u32,
-) -> Ceiled
+// The SAD of a block of 8 by 8, as much of it as b covers, up to a ceiling: row by row.
+fn cut_sad(block: &[u8], p: PlaneNumbers, b: Block, at: usize, out: &[u8], ceiling: u32) -> Ceiled
     requires { ⌜ (length (now block) ≡ 64) × (b .columns ≤ 8) × (b .rows ≤ 8) ⌝ }
     requires { ⌜ Lies b (p .columns) (p .rows) ⌝ }
     requires { ⌜ at + p .columns * p .rows ≤ length (now out) ⌝ }
@@ -93,6 +86,30 @@ fn filtered_sad(
         sad: ceiling - left,
         rows: high as u32,
     }
+}
+
+// The SAD of a block of 8 by 8, as much of it as b covers, up to a ceiling.
+fn filtered_sad(
+    block: &[u8],
+    p: PlaneNumbers,
+    b: Block,
+    at: usize,
+    out: &[u8],
+    ceiling: u32,
+) -> Ceiled
+    requires { ⌜ (length (now block) ≡ 64) × (b .columns ≤ 8) × (b .rows ≤ 8) ⌝ }
+    requires { ⌜ Lies b (p .columns) (p .rows) ⌝ }
+    requires { ⌜ at + p .columns * p .rows ≤ length (now out) ⌝ }
+    ensures { λ r. ⌜ CeiledIs (sadRow (sampleAt (packedPlane at (p .columns) (p .rows) (now (out .entry)))) (blockSamples (now (block .entry)) (b .x) (b .y)) b)
+        (b .rows) ceiling r ⌝ }
+{
+    if b.columns == 8 {
+        if 0 < b.rows {
+            let from = at + b.y * p.columns + b.x;
+            return sad::eight_sad(out, from, p.columns, block, 0, 8, b.rows, ceiling);
+        }
+    }
+    cut_sad(block, p, b, at, out, ceiling)
 }
 
 // Whether plane k of a block passes at filtered samples, which stand in a block of 8 by 8.

@@ -3,6 +3,7 @@ use mathlib.Core.Path.{_≡_, refl, sym, ap, _∙_}
 use mathlib.Core.Bool.{Bool, true, false, cond, _&&_}
 use mathlib.Core.List.{List}
 use Prim.Native.Nat.{ℕ, _+_, _-_, _*_, _≤_, _<_, min}
+use native.Mathlib.Nat.{add-mul}
 use native.Mathlib.Omega.{arith}
 use native.Mathlib.Decide.{decLt}
 use borrow.Author.Tests.{lt-ltb, le-ltb}
@@ -10,7 +11,10 @@ use lib.Dec.{ltb}
 use lib.IntN.{ℤ, pos, _+ℤ_}
 use lib.ListN.{length, getD, take, drop, length-drop}
 use lib.Seq.{getD-drop, take-length}
+use borrow.Rule.Slice.PartMut.{midOf}
 use Rattle.laws.specs.Sums.{sumBelow}
+use Rattle.laws.proofs.Signed.{sum}
+use Rattle.laws.proofs.Slices.{mid-at}
 use Rattle.laws.proofs.Sums.{sum-same}
 use Rattle.prediction.specs.declared.ceiling.Ceiled.{Ceiled}
 use Rattle.prediction.specs.Samples.{distance}
@@ -28,9 +32,10 @@ use Rattle.denoiser.specs.Search.{sadOf, displacedBy, displacementIn}
 use Rattle.denoiser.specs.Window.{Picture, Scene, displacementOf, sadAccepted, blockAccepted}
 use Rattle.denoiser.specs.Chroma.{halfSample, sampleIn, planeSad, planePasses, threeAccepted, chosenAccepts}
 use Rattle.denoiser.specs.Pictures.{pictureOf}
-use Rattle.denoiser.specs.Internal.{planeIn, packedPlane, lumaRow, sadRow, blockSamples, filteredIn, passesBy, chromaPasses}
+use Rattle.denoiser.specs.Internal.{Fits, Runs, Lies, rowDistance, eightApart, planeIn, packedPlane, lumaRow, sadRow, blockSamples, filteredIn, passesBy, chromaPasses}
 use Rattle.denoiser.proofs.Halves.{filtered-is, copied-is, chroma-alike, block-holds}
 use Rattle.denoiser.proofs.Pictures.{picture-byte}
+use Rattle.denoiser.proofs.Planes.{sample-below, row-below, packed-at, displaced-at}
 use Rattle.denoiser.proofs.Three.{luma-passes}
 
 -- the lesser of a sum and the limit is below the limit where the sum is
@@ -75,6 +80,76 @@ rows-from out bytes p b d at i =
     there x y =
         getD-drop at out (0 + nearestIn (p .rows) y * p .columns + nearestIn (p .columns) x) 0
         ∙ ap (λ (t : ℕ). getD out t 0) (omega arith)
+
+-- row r of two blocks of 8 columns, by the two parts that hold it
+pub eight-is : (a : List ℕ) (at stride : ℕ) (b : List ℕ) (from across r : ℕ)
+    → sumBelow (rowDistance (midOf (at + r * stride) 8 a) (midOf (from + r * across) 8 b)) 8 ≡ eightApart a at stride b from across r
+unfolding eightApart rowDistance
+eight-is a at stride b from across r =
+    sum-same _ _ 8 (λ k h. rw (mid-at (at + r * stride) 8 a k h, mid-at (from + r * across) 8 b k h))
+
+-- a sample of the packed plane, k columns and r rows past the block's first
+packed-from : (at c rows x y k r : ℕ) (out : List ℕ) → x + k < c → y + r < rows
+    → getD out (at + y * c + x + r * c + k) 0 ≡ sampleAt (packedPlane at c rows out) (pos (x + k)) (pos (y + r))
+packed-from at c rows x y k r out hx hy =
+    ap (λ (t : ℕ). getD out t 0) (rw (add-mul y r c) (omega arith)) ∙ sym (packed-at at c rows out (x + k) (y + r) hx hy)
+
+-- a block of 8 columns that lies in the plane once moved: its rows stand a stride apart from its first sample on
+module _ (out bytes : List ℕ) (p : PlaneNumbers) (b : Block) (d : Displacement) (at left top : ℕ)
+    (x-is : left ≡ nearestIn (p .columns) (pos (b .x) +ℤ d .dx)) (y-is : top ≡ nearestIn (p .rows) (pos (b .y) +ℤ d .dy))
+    (wide : Runs (b .x) 8 (d .dx) (p .columns)) (high : Runs (b .y) (b .rows) (d .dy) (p .rows))
+    (eight : b .columns ≡ 8) (l : Lies b (p .columns) (p .rows)) where
+  moved : (n x a k m : ℕ) (v : ℤ) → a ≡ nearestIn n (pos x +ℤ v) → Runs x m v n → k < m → a + k ≡ nearestIn n (pos (x + k) +ℤ v)
+  moved n x a k m v e r h = omega (arith, sum (pos x) v .up, sum (pos (x + k)) v .up, r .left, r .right)
+
+  inside : (n x a k m : ℕ) (v : ℤ) → a ≡ nearestIn n (pos x +ℤ v) → Runs x m v n → k < m → a + k < n
+  inside n x a k m v e r h = omega (arith, e, sum (pos x) v .up, r .left, r .right)
+
+  pub eight-there : Fits bytes p → (r : ℕ) → r < b .rows → p .start + top * p .stride + left + r * p .stride + 8 ≤ length bytes
+  eight-there f r h =
+      let last = sample-below bytes p f (left + 7) (top + r) (inside (p .columns) (b .x) left 7 8 (d .dx) x-is wide (omega arith)) (inside (p .rows) (b .y) top r (b .rows) (d .dy) y-is high h) in
+      let across : (top + r) * p .stride ≡ top * p .stride + r * p .stride = add-mul top r (p .stride) in
+      omega (arith, last, across)
+
+  pub eight-placed : (r : ℕ) → r < b .rows
+      → eightApart out (at + b .y * p .columns + b .x) (p .columns) bytes (p .start + top * p .stride + left) (p .stride) r
+      ≡ sadRow (sampleAt (packedPlane at (p .columns) (p .rows) out)) (displacedBy d (sampleAt (planeIn bytes p))) b r
+  unfolding eightApart sadRow
+  eight-placed r h = rw eight (sum-same _ _ 8 (λ k g. at-k k g))
+    where
+      across-from : (s t w u j k : ℕ) → s + t * w + u + j * w + k ≡ s + (t + j) * w + (u + k)
+      across-from s t w u j k = rw (add-mul t j w) (omega arith)
+
+      at-k : (k : ℕ) → k < 8
+          → distance (getD out (at + b .y * p .columns + b .x + r * p .columns + k) 0) (getD bytes (p .start + top * p .stride + left + r * p .stride + k) 0)
+          ≡ distance (sampleAt (packedPlane at (p .columns) (p .rows) out) (pos (b .x + k)) (pos (b .y + r)))
+          (displacedBy d (sampleAt (planeIn bytes p)) (pos (b .x + k)) (pos (b .y + r)))
+      at-k k g =
+          ap (λ (t : ℕ). distance t (getD bytes (p .start + top * p .stride + left + r * p .stride + k) 0))
+          (packed-from at (p .columns) (p .rows) (b .x) (b .y) k r out (omega (arith, l .wide, eight)) (omega (arith, l .high)))
+          ∙ ap (λ (t : ℕ). distance (sampleAt (packedPlane at (p .columns) (p .rows) out) (pos (b .x + k)) (pos (b .y + r))) (getD bytes t 0)) (across-from (p .start) top (p .stride) left r k)
+          ∙ ap (distance (sampleAt (packedPlane at (p .columns) (p .rows) out) (pos (b .x + k)) (pos (b .y + r))))
+          (displaced-at bytes p d (b .x + k) (b .y + r) (moved (p .columns) (b .x) left k 8 (d .dx) x-is wide g) (moved (p .rows) (b .y) top r (b .rows) (d .dy) y-is high h))
+
+-- and the rows of a block of 8 by 8
+pub eight-square : (out block : List ℕ) (c rows : ℕ) (b : Block) (at : ℕ) → b .columns ≡ 8 → Lies b c rows → (r : ℕ) → r < b .rows
+    → eightApart out (at + b .y * c + b .x) c block 0 8 r ≡ sadRow (sampleAt (packedPlane at c rows out)) (blockSamples block (b .x) (b .y)) b r
+unfolding eightApart sadRow blockSamples
+eight-square out block c rows b at eight l r h = rw eight (sum-same _ _ 8 (λ k g. at-k k g))
+  where
+    at-k : (k : ℕ) → k < 8
+        → distance (getD out (at + b .y * c + b .x + r * c + k) 0) (getD block (0 + r * 8 + k) 0)
+        ≡ distance (sampleAt (packedPlane at c rows out) (pos (b .x + k)) (pos (b .y + r))) (getD block ((b .y + r - b .y) * 8 + (b .x + k - b .x)) 0)
+    at-k k g =
+        let place : 0 + r * 8 + k ≡ (b .y + r - b .y) * 8 + (b .x + k - b .x) = omega arith in
+        ap (λ (t : ℕ). distance t (getD block (0 + r * 8 + k) 0)) (packed-from at c rows (b .x) (b .y) k r out (omega (arith, l .wide, eight)) (omega (arith, l .high)))
+        ∙ ap (λ (t : ℕ). distance (sampleAt (packedPlane at c rows out) (pos (b .x + k)) (pos (b .y + r))) (getD block t 0)) place
+
+-- the first row of either ends within the packed plane
+pub eight-ends : (at c rows n : ℕ) (b : Block) → b .columns ≡ 8 → Lies b c rows → at + c * rows ≤ n → (r : ℕ) → r < b .rows → at + b .y * c + b .x + r * c + 8 ≤ n
+eight-ends at c rows n b eight l h r less =
+    let across : (b .y + r) * c ≡ b .y * c + r * c = add-mul (b .y) r c in
+    omega (arith, h, across, row-below c rows (b .x) (b .y + r) 8 (omega (arith, l .wide, eight)) (omega (arith, l .high)))
 
 -- the test looks at the rectangle only
 pub passes-same : (centre s t : Samples) (r : Block)

@@ -106,6 +106,10 @@ lumaRow centre bytes p b d i =
 unfoldable pub sadRow : Samples → Samples → Block → ℕ → ℕ
 sadRow a b r i = sumBelow (λ j. distance (a (pos (r .x + j)) (pos (r .y + i))) (b (pos (r .x + j)) (pos (r .y + i)))) (r .columns)
 
+-- the SAD of row r of two blocks of 8 columns, each from a place on and a stride apart from row to row
+unfoldable pub eightApart : List ℕ → ℕ → ℕ → List ℕ → ℕ → ℕ → ℕ → ℕ
+eightApart a at stride b from across r = sumBelow (λ k. distance (getD a (at + r * stride + k) 0) (getD b (from + r * across + k) 0)) 8
+
 -- one step by itself: the best of a displacement and its eight neighbours
 unfoldable pub stepBest : (Displacement → ℕ) → ℕ → Displacement → Displacement
 stepBest cost step best = bestOf cost best (neighbourOf best step) 8

@@ -1,84 +1,45 @@
 -- `arnr::three::filtered_sad` meets its contract. Assumes nothing.
-use mathlib.Core.Path.{_≡_, refl}
-use Prim.Native.Nat.{ℕ, _-_, _≤_}
+use Prim.Native.Nat.{ℕ, _+_, _*_, _≤_, _<_}
 use native.Mathlib.Omega.{arith}
 use borrow.Author.Needs.{needs}
-use Rattle.prediction.specs.Plane.{sampleAt}
-use Rattle.prediction.proofs.Ceilings.{Measuring, none-measured, cut-off, row-more, all-measured}
-use Rattle.denoiser.specs.Internal.{packedPlane, blockSamples, sadRow}
+use lib.ListN.{length}
+use Rattle.prediction.proofs.Ceilings.{same-rows}
+use Rattle.denoiser.proofs.Passes.{eight-square, eight-ends}
 use Rattle.arnr.proofs.three.filtered_sad.Statement.{statement}
 use Rattle.arnr.proofs.three.filtered_sad.Tie as tie
 
-abbrev Inv-loop : tie.InvT-loop
-Inv-loop block p b at out ceiling high left₀ r₀ left r =
-    (r ≤ high) × Measuring (sadRow (sampleAt (packedPlane at (p .columns) (p .rows) out)) (blockSamples block (b .x) (b .y)) b) ceiling r left
+-- where 8 columns are covered, each row ends within the packed plane
+module _ (e : tie.Then2) where
+  ends : (r : ℕ) → r < e .before .before .before .before .before .before .args .b .rows
+      → e .before .before .before .before .before .before .args .at + e .before .before .before .before .before .before .args .b .y * e .before .before .before .before .before .before .args .p .columns + e .before .before .before .before .before .before .args .b .x + r * e .before .before .before .before .before .before .args .p .columns + 8 ≤ length (e .before .before .before .before .before .before .args .out .now)
+  ends = let s = e .before .before .before .before .before .before in eight-ends (s .args .at) (s .args .p .columns) (s .args .p .rows) _ (s .args .b) (e .before .before .if1 .taken) (s .pre .1 .0) (s .pre .1 .1)
 
-abbrev μ-loop : tie.MeasureT-loop
-μ-loop block p b at out ceiling high left₀ r₀ left r = high - r
+mul-from : tie.Need-mul-from
+mul-from c = omega (arith, ends (c .before .before) 0 (c .before .before .if2 .taken))
 
-loop-holds : tie.Need-loop-holds Inv-loop μ-loop
-loop-holds c = (omega arith, none-measured _ _)
+add-from : tie.Need-add-from
+add-from c = omega (arith, ends (c .before .before) 0 (c .before .before .if2 .taken))
 
-line-sad-requires : tie.Need-line-sad-requires Inv-loop μ-loop
-line-sad-requires c κs =
-    let s = c .before .before .before .before in (
-      (s .pre .0 .0, omega (arith, c .loop-test .taken, s .pre .0 .2), s .pre .0 .1),
-      (
-        record { short = s .pre .1 .0 .slim; wide = s .pre .1 .0 .wide; high = omega (arith, s .pre .1 .0 .high, c .loop-test .taken) },
-        s .pre .1 .1,
-      ),
-    )
+add-from-2 : tie.Need-add-from-2
+add-from-2 c = omega (arith, ends (c .before .before .before) 0 (c .before .before .before .if2 .taken))
 
-add-r : tie.Need-add-r Inv-loop μ-loop
-add-r c = search needs
+eight-sad-requires : tie.Need-eight-sad-requires
+eight-sad-requires c κs = (λ r h. (ends (c .before .before .before) r h, omega (arith, h, c .before .before .before .before .before .before .before .before .before .pre .0)), c .before .before .before .before .before .before .before .before .before .pre .1 .0 .low)
 
-cast-t12 : tie.Need-cast-t12 Inv-loop μ-loop
-cast-t12 c = let a = c .before in record { fits = omega (arith, a .before .loop-test .taken, a .before .before .before .before .before .pre .1 .0 .low) }
-
-returns : tie.Need-returns Inv-loop μ-loop
+returns : tie.Need-returns
 returns c =
-    let a = c .before in
-    let l = a .before .before .loop in
-    cut-off _ _ (l .r) (l .left) (a .line-sad .result) (l .inv .1) (a .line-sad .ensures .0) _ _ (a .before .loop-test .taken) (c .if1 .taken) refl
+    let s = c .before .before .before .before .before .before .before .before .before .before in
+    same-rows _ _ (s .args .b .rows) (s .args .ceiling) _
+    (eight-square (s .args .out .now) (s .args .block .now) (s .args .p .columns) (s .args .p .rows) (s .args .b) (s .args .at) (c .before .before .before .before .before .before .if1 .taken) (s .pre .1 .0))
+    (c .eight-sad .ensures)
 
-sub-left : tie.Need-sub-left Inv-loop μ-loop
-sub-left c = search needs
+cut-sad-requires : tie.Need-cut-sad-requires
+cut-sad-requires c κs = search needs
 
-loop-less : tie.Need-loop-less Inv-loop μ-loop
-loop-less c = omega (arith, c .before .before .loop-test .taken)
-
-loop-again : tie.Need-loop-again Inv-loop μ-loop
-loop-again c =
-    let a = c .before in
-    let l = a .before .before .loop in
-    (omega (arith, a .before .loop-test .taken), row-more _ _ (l .r) (l .left) (a .line-sad .result) (l .inv .1) (a .line-sad .ensures .0) (c .if1 .left))
-
-sub-t13 : tie.Need-sub-t13 Inv-loop μ-loop
-sub-t13 c = omega (arith, c .before .loop .inv .1 .room)
-
-cast-t14 : tie.Need-cast-t14 Inv-loop μ-loop
-cast-t14 c = record { fits = omega (arith, c .before .before .before .before .pre .1 .0 .low) }
-
-returns-2 : tie.Need-returns-2 Inv-loop μ-loop
-returns-2 c =
-    let l = c .before .loop in
-    let r-is : l .r ≡ c .before .before .before .before .args .b .rows = omega (arith, l .inv .0) in
-    all-measured _ _ _ (l .left) (rw r-is at (l .inv .1))
+returns-2 : tie.Need-returns-2
+returns-2 c = search needs
 
 pub filtered-sad-spec : {M : Type 1} → statement M
 filtered-sad-spec =
     tie.close
-    (tie.spec
-    Inv-loop
-    μ-loop
-    loop-holds
-    line-sad-requires
-    add-r
-    cast-t12
-    returns
-    sub-left
-    loop-less
-    loop-again
-    sub-t13
-    cast-t14
-    returns-2)
+    (tie.spec mul-from add-from add-from-2 eight-sad-requires returns cut-sad-requires returns-2)
