@@ -307,6 +307,32 @@ vp8model_build vp8model_build_half_sample(const uint8_t *bytes, size_t bytes_len
                                           uint8_t *output, size_t output_len, uint32_t *sums,
                                           size_t sums_len, uint32_t *weights, size_t weights_len);
 
+/* The builder that accepts a block on all three planes together, once for each rule of U and V: the
+ * displacement halved toward zero, as vp8model_build_from_numbers has it, or half samples, as
+ * vp8model_build_half_sample has them. Parameters, refusals, cropping, caps, displaced samples and the search,
+ * which looks at Y alone, are those of the builder with that rule. They differ in which blocks are accepted: the
+ * builders above accept a frame's block where its SAD in Y is below 13 times the block's samples there. These
+ * two ask Y, U and V, each by itself, and accept it where all three pass. A plane passes where its SAD is below
+ * 13 times the samples that the block has in that plane: of a block of w columns and h rows, which is cut at the
+ * picture's edge, w * h in Y and ((w + 1) / 2) * ((h + 1) / 2) in U and in V. The SAD of a plane is over these
+ * samples, the centre's against the frame's displaced samples as the rule makes them. So of a whole block 3327
+ * passes in Y and 831 in U or V, and 3328 and 832 do not. Nothing is added up across planes, and caps play no
+ * part.
+ *
+ * A block that is not accepted has no share in any of the three planes, Y included, and is not counted: accepted
+ * is at most what the builder with that rule gives. Where U and V of every block that it accepts pass, both give
+ * the same answer and slices. The Rust original has no such calls. Records are passed as their numbers here
+ * too. */
+vp8model_build vp8model_build_three_planes(const uint8_t *bytes, size_t bytes_len, const uint32_t *numbers,
+                                           size_t numbers_len, size_t centre, uint8_t strength,
+                                           uint8_t *output, size_t output_len, uint32_t *sums,
+                                           size_t sums_len, uint32_t *weights, size_t weights_len);
+vp8model_build vp8model_build_three_planes_half_sample(const uint8_t *bytes, size_t bytes_len,
+                                                       const uint32_t *numbers, size_t numbers_len,
+                                                       size_t centre, uint8_t strength, uint8_t *output,
+                                                       size_t output_len, uint32_t *sums, size_t sums_len,
+                                                       uint32_t *weights, size_t weights_len);
+
 #ifdef __cplusplus
 }
 #endif

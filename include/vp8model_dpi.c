@@ -233,6 +233,30 @@ void vp8model_dpi_build_half_sample(const svOpenArrayHandle bytes, const svOpenA
     memcpy(answer, &b, sizeof b);
 }
 
+void vp8model_dpi_build_three_planes(const svOpenArrayHandle bytes, const svOpenArrayHandle numbers,
+                                     uint64_t centre, uint8_t strength, const svOpenArrayHandle picture,
+                                     const svOpenArrayHandle sums, const svOpenArrayHandle weights,
+                                     svBitVecVal *answer)
+{
+    vp8model_build b = vp8model_build_three_planes(
+        bytes_of(bytes), length(bytes), words_of(numbers), length(numbers), centre, strength,
+        (uint8_t *)entries(picture), length(picture), (uint32_t *)entries(sums), length(sums),
+        (uint32_t *)entries(weights), length(weights));
+    memcpy(answer, &b, sizeof b);
+}
+
+void vp8model_dpi_build_three_planes_half_sample(const svOpenArrayHandle bytes, const svOpenArrayHandle numbers,
+                                                 uint64_t centre, uint8_t strength, const svOpenArrayHandle picture,
+                                                 const svOpenArrayHandle sums, const svOpenArrayHandle weights,
+                                                 svBitVecVal *answer)
+{
+    vp8model_build b = vp8model_build_three_planes_half_sample(
+        bytes_of(bytes), length(bytes), words_of(numbers), length(numbers), centre, strength,
+        (uint8_t *)entries(picture), length(picture), (uint32_t *)entries(sums), length(sums),
+        (uint32_t *)entries(weights), length(weights));
+    memcpy(answer, &b, sizeof b);
+}
+
 #ifdef __cplusplus
 }
 #endif
