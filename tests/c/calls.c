@@ -2,9 +2,9 @@
  * Calls every function of vp8model.h, accepted and refused, and holds the answers against values worked out by
  * hand from document 01, those of the SAD up to a ceiling from request 4, those of versions and bilinear rows
  * from request 10, those of whole pictures from requests 1 and 14 and against the single calls, those of caps from
- * request 7, those of half samples from request 6 and against a builder that goes sample by sample. Every slice and
- * array is lent from between guard entries. On a refusal, and for const arguments always, the lent entries are as
- * they were.
+ * request 7, those of half samples from request 6 and of acceptance on three planes from request 9, both against a
+ * builder that goes sample by sample. Every slice and array is lent from between guard entries. On a refusal, and for
+ * const arguments always, the lent entries are as they were.
  *
  * Prints one line, `calls: N checks, M failed`, after a line for each check that fails. C11 and C++.
  */
@@ -143,11 +143,22 @@ static words numbers, sums, weights, curve;
 static vp8model_frame records[1 + FRAMES_MOST + 1];
 static vp8model_frame records_kept[1 + FRAMES_MOST + 1];
 
-/* The builders, alike: which one is called, and with how many numbers. The last gets records as their numbers. */
+/* The builders, alike: which one is called, and with how many numbers. Those of RECORDS, but the first, get records as
+ * their numbers. */
 
-enum builder { CHECKS_ONLY, FROM_NUMBERS, FROM_RECORDS, HALF_SAMPLE, HALF_OF_RECORDS };
+enum builder {
+    CHECKS_ONLY,
+    FROM_NUMBERS,
+    FROM_RECORDS,
+    HALF_SAMPLE,
+    HALF_OF_RECORDS,
+    THREE_PLANES,
+    THREE_OF_RECORDS,
+    THREE_HALF,
+    THREE_HALF_OF_RECORDS
+};
 
-#define LAST_BUILDER HALF_OF_RECORDS
+#define LAST_BUILDER THREE_HALF_OF_RECORDS
 
 /* The builders over numbers have the same parameters. */
 typedef vp8model_build over_numbers(const uint8_t *, size_t, const uint32_t *, size_t, size_t, uint8_t, uint8_t *,
@@ -178,20 +189,32 @@ static vp8model_build build_by(over_numbers *call, const uint32_t *of, size_t le
                 output.length, at_words(&sums), sums.length, at_words(&weights), weights.length);
 }
 
+static int gets_records(enum builder which)
+{
+    return which == FROM_RECORDS || which == HALF_OF_RECORDS || which == THREE_OF_RECORDS
+           || which == THREE_HALF_OF_RECORDS;
+}
+
 static vp8model_build build(enum builder which, size_t centre, uint8_t strength)
 {
-    const uint32_t *of = at_words(&numbers);
+    static over_numbers *const calls[] = {NULL,
+                                          vp8model_build_from_numbers,
+                                          NULL,
+                                          vp8model_build_half_sample,
+                                          vp8model_build_half_sample,
+                                          vp8model_build_three_planes,
+                                          vp8model_build_three_planes,
+                                          vp8model_build_three_planes_half_sample,
+                                          vp8model_build_three_planes_half_sample};
     if (which == CHECKS_ONLY)
-        return vp8model_check_build(at_bytes(&picture), picture.length, of, numbers.length, centre,
+        return vp8model_check_build(at_bytes(&picture), picture.length, at_words(&numbers), numbers.length, centre,
                                     output.length, sums.length, weights.length);
-    if (which == FROM_NUMBERS)
-        return build_by(vp8model_build_from_numbers, of, numbers.length, centre, strength);
-    if (which == HALF_SAMPLE)
-        return build_by(vp8model_build_half_sample, of, numbers.length, centre, strength);
+    if (!gets_records(which))
+        return build_by(calls[which], at_words(&numbers), numbers.length, centre, strength);
     size_t count = lend_records();
-    if (which == HALF_OF_RECORDS)
-        return build_by(vp8model_build_half_sample, (const uint32_t *)(records + 1),
-                        VP8MODEL_NUMBERS_PER_FRAME * count, centre, strength);
+    if (which != FROM_RECORDS)
+        return build_by(calls[which], (const uint32_t *)(records + 1), VP8MODEL_NUMBERS_PER_FRAME * count, centre,
+                        strength);
     return vp8model_build_arnr_altref(at_bytes(&picture), picture.length, records + 1, count, centre,
                                       strength, at_bytes(&output), output.length, at_words(&sums),
                                       sums.length, at_words(&weights), weights.length);
@@ -201,8 +224,7 @@ static vp8model_build build(enum builder which, size_t centre, uint8_t strength)
 static int inputs_kept(enum builder which)
 {
     return same_bytes(&picture) && same_words(&numbers)
-           && ((which != FROM_RECORDS && which != HALF_OF_RECORDS)
-               || memcmp(records, records_kept, sizeof records) == 0);
+           && (!gets_records(which) || memcmp(records, records_kept, sizeof records) == 0);
 }
 
 /* And so are all three lent slices. */
@@ -1867,7 +1889,8 @@ static void builds_refused_in_order(enum builder which)
     }
 }
 
-/* Half samples. A builder by the definitions, sample by sample: the judge of both rules for U and V. */
+/* Half samples, and acceptance on three planes. A builder by the definitions, sample by sample: the judge of both rules
+ * for U and V, with Y alone asked of a block and with all three planes. */
 
 /* A plane of a frame: its first byte, its stride and its sides. */
 typedef struct samples {
@@ -1977,7 +2000,21 @@ typedef struct window {
     size_t count, centre;
     uint8_t strength;
     displacement found[COUNT_MOST][BLOCKS_MOST];
+    /* by either rule for U and V, the planes that pass: bit k for plane k */
+    unsigned passing[2][COUNT_MOST][BLOCKS_MOST];
 } window;
+
+static window window_of(int width, int height, size_t count, size_t centre, uint8_t strength)
+{
+    window w;
+    memset(&w, 0, sizeof w);
+    w.width = width;
+    w.height = height;
+    w.count = count;
+    w.centre = centre;
+    w.strength = strength;
+    return w;
+}
 
 static int block_columns(const window *w)
 {
@@ -1994,20 +2031,72 @@ static int is_cropped(const window *w)
     return w->count == 1 || w->strength == 0;
 }
 
+/* What a block covers in a plane. */
+typedef struct part {
+    int x0, y0, columns, rows;
+} part;
+
+static part part_of(const window *w, int b, int k)
+{
+    int x0 = 16 * (b % block_columns(w)), y0 = 16 * (b / block_columns(w));
+    int columns = w->width - x0 < 16 ? w->width - x0 : 16, rows = w->height - y0 < 16 ? w->height - y0 : 16;
+    const part luma = {x0, y0, columns, rows}, chroma = {x0 / 2, y0 / 2, (columns + 1) / 2, (rows + 1) / 2};
+    return k == 0 ? luma : chroma;
+}
+
+/* The SAD of a plane is below 13 times the samples that the block has there. */
+static int passes(enum chroma by, const window *w, size_t g, int b, int k)
+{
+    const part p = part_of(w, b, k);
+    int sad = 0;
+    for (int i = 0; i < p.columns * p.rows; i++) {
+        int x = p.x0 + i % p.columns, y = p.y0 + i / p.columns;
+        int difference = sample_at(plane_of(w->centre, k), x, y)
+                         - displaced_sample(by, k, plane_of(g, k), x, y, w->found[g][b]);
+        sad += difference < 0 ? -difference : difference;
+    }
+    return sad < 13 * p.columns * p.rows;
+}
+
+static void search_block(window *w, size_t g, int b)
+{
+    const part p = part_of(w, b, 0);
+    w->found[g][b] = block_search(plane_of(w->centre, 0), plane_of(g, 0), p.x0, p.y0);
+    for (int by = WHOLE; by <= HALF; by++) {
+        w->passing[by][g][b] = 0;
+        for (int k = 0; k < 3; k++)
+            w->passing[by][g][b] |= (unsigned)passes((enum chroma)by, w, g, b, k) << k;
+    }
+}
+
 static void search_window(window *w)
 {
     for (size_t g = 0; g < w->count; g++)
         for (int b = 0; b < blocks_of(w) && g != w->centre; b++)
-            w->found[g][b] = block_search(plane_of(w->centre, 0), plane_of(g, 0), 16 * (b % block_columns(w)),
-                                          16 * (b / block_columns(w)));
+            search_block(w, g, b);
 }
 
-/* The centre's block is none, nor is one whose SAD is 13 times its area or more. */
-static int is_accepted(const window *w, size_t g, int b)
+/* What a builder goes by: the displaced sample in U and V, and the planes that are asked of a block, the first alone or
+ * the first three. */
+typedef struct rule {
+    enum chroma chroma;
+    unsigned planes;
+} rule;
+
+/* The centre's block is none, nor is one that a plane excludes. */
+static int is_accepted(rule r, const window *w, size_t g, int b)
 {
-    int columns = w->width - 16 * (b % block_columns(w)), rows = w->height - 16 * (b / block_columns(w));
-    int area = (columns < 16 ? columns : 16) * (rows < 16 ? rows : 16);
-    return g != w->centre && w->found[g][b].sad < (uint32_t)(13 * area);
+    unsigned asked = (1u << r.planes) - 1;
+    return g != w->centre && (w->passing[r.chroma][g][b] & asked) == asked;
+}
+
+static uint32_t count_accepted(rule r, const window *w)
+{
+    uint32_t count = 0;
+    for (size_t g = 0; g < w->count && !is_cropped(w); g++)
+        for (int b = 0; b < blocks_of(w); b++)
+            count += (uint32_t)is_accepted(r, w, g, b);
+    return count;
 }
 
 /* What the slices hold, and the accepted blocks. */
@@ -2036,7 +2125,7 @@ static uint32_t share_of(const window *w, size_t g, int moved, int centre)
     return weight < cap ? weight : cap;
 }
 
-static void expect_sample(enum chroma rule, const window *w, int k, int x, int y, held *h)
+static void expect_sample(rule r, const window *w, int k, int x, int y, held *h)
 {
     int unit = k == 0 ? 16 : 8, b = y / unit * block_columns(w) + x / unit;
     samples centre = plane_of(w->centre, k);
@@ -2044,8 +2133,8 @@ static void expect_sample(enum chroma rule, const window *w, int k, int x, int y
     size_t i = packed_start(w, k) + (size_t)(y * centre.columns + x);
     uint32_t sum = 16 * (uint32_t)m, total = 16;
     for (size_t g = 0; g < w->count; g++)
-        if (is_accepted(w, g, b)) {
-            int moved = displaced_sample(rule, k, plane_of(g, k), x, y, w->found[g][b]);
+        if (is_accepted(r, w, g, b)) {
+            int moved = displaced_sample(r.chroma, k, plane_of(g, k), x, y, w->found[g][b]);
             uint32_t share = share_of(w, g, moved, m);
             sum += share * (uint32_t)moved;
             total += share;
@@ -2055,16 +2144,13 @@ static void expect_sample(enum chroma rule, const window *w, int k, int x, int y
     h->weights[i] = is_cropped(w) ? 7 : total;
 }
 
-static void expect_window(enum chroma rule, const window *w, held *h)
+static void expect_window(rule r, const window *w, held *h)
 {
-    h->accepted = 0;
-    for (size_t g = 0; g < w->count && !is_cropped(w); g++)
-        for (int b = 0; b < blocks_of(w); b++)
-            h->accepted += (uint32_t)is_accepted(w, g, b);
+    h->accepted = count_accepted(r, w);
     for (int k = 0; k < 3; k++) {
         samples p = plane_of(w->centre, k);
         for (int i = 0; i < p.columns * p.rows; i++)
-            expect_sample(rule, w, k, i % p.columns, i / p.columns, h);
+            expect_sample(r, w, k, i % p.columns, i / p.columns, h);
     }
     for (size_t i = packed_start(w, 3); i < packed_start(w, 3) + PAST; i++) {
         h->output[i] = 7;
@@ -2097,9 +2183,13 @@ static int same_held(const held *a, const held *b, size_t from, size_t to)
            && memcmp(a->weights + from, b->weights + from, (to - from) * sizeof a->weights[0]) == 0;
 }
 
-/* What was met: accepted blocks by their displacement; windows in which U and V of the two calls have to be the same,
- * since every component is even or the centre is only cropped; those in which U, and V, are not. */
+/* What was met: blocks accepted on luma by their displacement; windows in which U and V of the two rules have to be the
+ * same, since every component is even or the centre is only cropped; those in which U, and V, are not. */
 static unsigned met[31][31], met_even, met_cropped, met_other_u, met_other_v;
+
+/* By either rule: blocks by the planes that pass; windows in which three planes accept what luma accepts, and those in
+ * which they accept nothing of it; blocks that pass on three planes by this rule alone. */
+static unsigned met_passing[2][8], met_none_less[2], met_none_left[2], met_by_one[2];
 
 static int all_even(const window *w)
 {
@@ -2112,10 +2202,11 @@ static int all_even(const window *w)
 
 static void meet(const window *w, const held *by_whole, const held *by_half)
 {
+    static const rule luma = {WHOLE, 1};
     const size_t u = packed_start(w, 1), v = packed_start(w, 2), end = packed_start(w, 3);
     for (size_t g = 0; g < w->count && !is_cropped(w); g++)
         for (int b = 0; b < blocks_of(w); b++)
-            if (is_accepted(w, g, b))
+            if (is_accepted(luma, w, g, b))
                 met[15 + w->found[g][b].dy][15 + w->found[g][b].dx]++;
     met_cropped += is_cropped(w) ? 1 : 0;
     met_even += !is_cropped(w) && all_even(w) ? 1 : 0;
@@ -2123,24 +2214,73 @@ static void meet(const window *w, const held *by_whole, const held *by_half)
     met_other_v += same_held(by_whole, by_half, v, end) ? 0 : 1;
 }
 
-/* Both calls as the judge has them, and beside one another. */
+static void meet_planes(const window *w, enum chroma by)
+{
+    const rule luma = {by, 1}, three = {by, 3};
+    uint32_t of_luma = count_accepted(luma, w), of_three = count_accepted(three, w);
+    for (size_t g = 0; g < w->count && !is_cropped(w); g++)
+        for (int b = 0; b < blocks_of(w) && g != w->centre; b++) {
+            met_passing[by][w->passing[by][g][b]]++;
+            met_by_one[by] += w->passing[by][g][b] == 7 && w->passing[1 - by][g][b] != 7 ? 1 : 0;
+        }
+    met_none_less[by] += of_luma > 0 && of_three == of_luma ? 1 : 0;
+    met_none_left[by] += of_luma > 0 && of_three == 0 ? 1 : 0;
+}
+
+/* The centre weighs alone: each total is 16, each sum 16 times its sample, and the picture is the centre. */
+static int is_without_shares(const window *w, const held *h)
+{
+    for (int k = 0; k < 3; k++) {
+        samples p = plane_of(w->centre, k);
+        for (int i = 0; i < p.columns * p.rows; i++) {
+            size_t at = packed_start(w, k) + (size_t)i;
+            uint32_t m = (uint32_t)sample_at(p, i % p.columns, i / p.columns);
+            if (h->output[at] != m || h->sums[at] != 16 * m || h->weights[at] != 16)
+                return 0;
+        }
+    }
+    return 1;
+}
+
+/* The call that asks three planes beside the one that asks luma alone, with one rule for U and V. */
+static void check_beside(const window *w, enum chroma by, const held *of_luma, const held *of_three)
+{
+    CHECK(of_three->accepted <= of_luma->accepted);
+    if (of_three->accepted == of_luma->accepted)
+        CHECK(same_held(of_luma, of_three, 0, packed_start(w, 3) + PAST));
+    if (of_three->accepted == 0 && !is_cropped(w))
+        CHECK(is_without_shares(w, of_three));
+    meet_planes(w, by);
+}
+
+/* Each call as the judge has it, and all beside one another. */
 static void check_window(window *w)
 {
-    static held expected, by_whole, by_half, of_records;
+    static const enum builder luma[2] = {FROM_NUMBERS, HALF_SAMPLE}, three[2] = {THREE_PLANES, THREE_HALF};
+    static held expected, of_luma[2], of_three[2], of_records;
     size_t all = packed_start(w, 3) + PAST;
     search_window(w);
-    build_window(FROM_NUMBERS, w, &by_whole);
-    build_window(HALF_SAMPLE, w, &by_half);
+    for (int by = WHOLE; by <= HALF; by++) {
+        const rule one = {(enum chroma)by, 1}, each = {(enum chroma)by, 3};
+        build_window(luma[by], w, &of_luma[by]);
+        expect_window(one, w, &expected);
+        CHECK(same_held(&expected, &of_luma[by], 0, all) && expected.accepted == of_luma[by].accepted);
+        build_window(three[by], w, &of_three[by]);
+        expect_window(each, w, &expected);
+        CHECK(same_held(&expected, &of_three[by], 0, all) && expected.accepted == of_three[by].accepted);
+        check_beside(w, (enum chroma)by, &of_luma[by], &of_three[by]);
+    }
     build_window(HALF_OF_RECORDS, w, &of_records);
-    expect_window(WHOLE, w, &expected);
-    CHECK(same_held(&expected, &by_whole, 0, all) && expected.accepted == by_whole.accepted);
-    expect_window(HALF, w, &expected);
-    CHECK(same_held(&expected, &by_half, 0, all) && expected.accepted == by_half.accepted);
-    CHECK(same_held(&by_half, &of_records, 0, all) && by_half.accepted == of_records.accepted);
-    CHECK(same_held(&by_whole, &by_half, 0, packed_start(w, 1)) && by_whole.accepted == by_half.accepted);
-    if (is_cropped(w) || all_even(w))
-        CHECK(same_held(&by_whole, &by_half, 0, all));
-    meet(w, &by_whole, &by_half);
+    CHECK(same_held(&of_luma[HALF], &of_records, 0, all) && of_luma[HALF].accepted == of_records.accepted);
+    build_window(THREE_HALF_OF_RECORDS, w, &of_records);
+    CHECK(same_held(&of_three[HALF], &of_records, 0, all) && of_three[HALF].accepted == of_records.accepted);
+    CHECK(same_held(&of_luma[WHOLE], &of_luma[HALF], 0, packed_start(w, 1))
+          && of_luma[WHOLE].accepted == of_luma[HALF].accepted);
+    if (is_cropped(w) || all_even(w)) {
+        CHECK(same_held(&of_luma[WHOLE], &of_luma[HALF], 0, all));
+        CHECK(same_held(&of_three[WHOLE], &of_three[HALF], 0, all));
+    }
+    meet(w, &of_luma[WHOLE], &of_luma[HALF]);
 }
 
 /* Numbers below `below`, the same ones in every run. */
@@ -2190,7 +2330,7 @@ static int wave(int x)
  * samples that it reads are not at the edge. The cost of a displacement rises with the larger of its two distances. */
 static window lend_moved(int dx, int dy, uint8_t strength)
 {
-    window w = {48, 48, 2, 0, strength, {{{0, 0, 0}}}};
+    window w = window_of(48, 48, 2, 0, strength);
     lend_frames(&w, 48, 24);
     for (int y = 0; y < 48; y++)
         for (int x = 0; x < 48; x++) {
@@ -2273,39 +2413,61 @@ static void half_samples_by_hand(void)
         check_component(d);
 }
 
-/* Every displacement of the middle block; U and V of both frames are noise. */
+/* Every displacement of the middle block; U and V of both frames are noise: of all samples, or so mild that one of the
+ * two passes, and the other does by turns. */
+static void moved_window(int dx, int dy, int mild)
+{
+    window w = lend_moved(dx, dy, 6);
+    for (size_t g = 0; g < 2; g++)
+        for (int i = 0; i < 2 * 24 * 24; i++) {
+            uint32_t reach = (dx + dy + 30 + i) % 2 == 0 ? 24 : 24 + 8 * (uint32_t)((dx + 15) % 4);
+            put_sample(g, 1 + i % 2, i / 2 % 24, i / 48,
+                       mild ? (uint8_t)(90 + drawn(reach)) : drawn_sample(g == 1 && dx % 3 == 0));
+        }
+    keep_bytes(&picture);
+    check_window(&w);
+    CHECK(w.found[1][4].dx == dx && w.found[1][4].dy == dy && w.found[1][4].sad == 0);
+}
+
 static void moved_windows(void)
 {
     for (int dy = -15; dy <= 15; dy++)
         for (int dx = -15; dx <= 15; dx++) {
-            window w = lend_moved(dx, dy, 6);
-            for (size_t g = 0; g < 2; g++)
-                for (int i = 0; i < 2 * 24 * 24; i++)
-                    put_sample(g, 1 + i % 2, i / 2 % 24, i / 48, drawn_sample(g == 1 && dx % 3 == 0));
-            keep_bytes(&picture);
-            check_window(&w);
-            CHECK(w.found[1][4].dx == dx && w.found[1][4].dy == dy && w.found[1][4].sad == 0);
+            moved_window(dx, dy, 0);
+            moved_window(dx, dy, 1);
         }
 }
 
-/* One to four frames of noise, so near to 100 in Y that most blocks are accepted, wherever they are found. */
-static void check_noise(int width, int height, unsigned n)
+/* The bytes of a plane, those between its rows too, are 90 and up to so many more. */
+static void put_noise(size_t g, int k, uint32_t reach)
+{
+    samples p = plane_of(g, k);
+    uint32_t first = at_words(&numbers)[g * VP8MODEL_NUMBERS_PER_FRAME + 2 + (size_t)k];
+    for (size_t i = 0; i < needed((size_t)p.stride, (size_t)p.columns, (size_t)p.rows); i++)
+        at_bytes(&picture)[first + i] = (uint8_t)(90 + drawn(reach));
+}
+
+/* One to four frames of noise, so small in Y that most blocks pass there, wherever they are found. In U and V it is of
+ * all samples; or mild, with a reach at which a plane passes always, by turns or never: two samples differ by a third
+ * of it on average. */
+static void check_noise(int width, int height, unsigned n, int mild)
 {
     static const uint8_t strengths[8] = {6, 1, 3, 255, 0, 5, 2, 4};
+    static const uint32_t reaches[8] = {39, 12, 36, 42, 30, 39, 60, 40};
     const uint32_t columns = (uint32_t)width, half_columns = (columns + 1) / 2;
     const uint32_t luma_strides[4] = {columns, columns + 3, columns - 1, 0};
     const uint32_t chroma_strides[5] = {half_columns, half_columns + 2, half_columns - 1, 1, 0};
     size_t count = 1 + (n + 2) % 4;
-    window w = {width, height, count, n % count, strengths[n % 8], {{{0, 0, 0}}}};
-    uint32_t reach = n % 5 == 4 ? 60 : 24;
+    window w = window_of(width, height, count, n % count, strengths[n % 8]);
     lend_frames(&w, luma_strides[n % 7 < 4 ? 0 : n % 7 - 3], chroma_strides[n % 9 < 5 ? 0 : n % 9 - 4]);
     for (size_t i = 0; i < picture.length; i++)
         at_bytes(&picture)[i] = drawn_sample(n % 3 == 0);
     for (size_t g = 0; g < count; g++) {
-        samples luma = plane_of(g, 0);
-        for (size_t i = 0; i < needed((size_t)luma.stride, columns, (size_t)height); i++)
-            at_bytes(&picture)[at_words(&numbers)[g * VP8MODEL_NUMBERS_PER_FRAME + 2] + i] =
-                (uint8_t)(100 + drawn(reach));
+        put_noise(g, 0, n % 5 == 4 ? 60 : 24);
+        if (mild) {
+            put_noise(g, 1, reaches[n / 4 % 8]);
+            put_noise(g, 2, reaches[n / 32 % 8]);
+        }
         if (n % 2 == 0)
             put_cap(g, drawn(VP8MODEL_MAX_CAP + 1));
     }
@@ -2313,13 +2475,207 @@ static void check_noise(int width, int height, unsigned n)
     check_window(&w);
 }
 
-static void windows_of_noise(void)
+static void windows_of_noise(int mild)
 {
     static const int sides[12] = {1, 2, 3, 4, 15, 16, 17, 18, 31, 32, 33, 34};
     unsigned n = 0;
     for (int i = 0; i < 144; i++)
         for (int times = 0; times < 4; times++)
-            check_noise(sides[i % 12], sides[i / 12], n++);
+            check_noise(sides[i % 12], sides[i / 12], n++, mild);
+}
+
+/* Acceptance on three planes. */
+
+/* A sample by its place in the plane, row by row. */
+static void put_nth(size_t g, int k, int i, int sample)
+{
+    int columns = plane_of(g, k).columns;
+    put_sample(g, k, i % columns, i / columns, (uint8_t)sample);
+}
+
+/* Two frames of one block, both 100 in every sample, but that in plane k, which is U or V, the differences add up to
+ * `sad`: spread over all samples, or 100 in each of the first ones. Nothing moves, so that both rules copy them. Where
+ * the block is accepted, Y weighs 32. */
+static void check_sum(int width, int height, int k, int sad, int spread, uint32_t accepted)
+{
+    static const enum builder which[4] = {THREE_PLANES, THREE_OF_RECORDS, THREE_HALF, THREE_HALF_OF_RECORDS};
+    static held h;
+    window w = window_of(width, height, 2, 0, 1);
+    int area = (width + 1) / 2 * ((height + 1) / 2);
+    lend_frames(&w, (uint32_t)width, (uint32_t)(width + 1) / 2);
+    memset(at_bytes(&picture), 100, picture.length);
+    for (int i = 0, left = sad; i < area; i++) {
+        int most = spread ? (left + area - i - 1) / (area - i) : 100, difference = left < most ? left : most;
+        put_nth(1, k, i, i % 2 == 0 ? 100 + difference : 100 - difference);
+        left -= difference;
+    }
+    keep_bytes(&picture);
+    for (int i = 0; i < 4; i++) {
+        build_window(which[i], &w, &h);
+        CHECK(h.accepted == accepted);
+        CHECK(h.weights[0] == (accepted != 0 ? 32 : 16) && h.sums[0] == 100 * h.weights[0] && h.output[0] == 100);
+        CHECK(accepted != 0 || is_without_shares(&w, &h));
+    }
+    build_window(FROM_NUMBERS, &w, &h);
+    CHECK(h.accepted == 1);
+}
+
+/* The greatest sum that passes in U and in V: 13 times their samples, less 1. */
+static void sums_by_hand(void)
+{
+    static const int most[13][3] = {{1, 1, 12},    {2, 1, 12},    {2, 2, 12},   {3, 1, 25},   {3, 3, 51},
+                                    {4, 4, 51},    {8, 8, 207},   {1, 16, 103}, {2, 15, 103}, {16, 1, 103},
+                                    {15, 15, 831}, {16, 16, 831}, {16, 13, 727}};
+    for (int i = 0; i < 13; i++)
+        for (int k = 1; k <= 2; k++)
+            for (int spread = 0; spread < 2; spread++) {
+                check_sum(most[i][0], most[i][1], k, 0, spread, 1);
+                check_sum(most[i][0], most[i][1], k, most[i][2], spread, 1);
+                check_sum(most[i][0], most[i][1], k, most[i][2] + 1, spread, 0);
+                check_sum(most[i][0], most[i][1], k, most[i][2] + 2, spread, 0);
+                check_sum(most[i][0], most[i][1], k, 2 * most[i][2] + 2, spread, 0);
+            }
+}
+
+/* The block of the centre is 100 in every plane k, but that one sample is by[k] less, one is more and one as much less.
+ * Against 113 throughout, the SAD is 13 times the samples and by[k]. */
+static void put_limits(const window *w, int b, const int by[3])
+{
+    for (int k = 0; k < 3; k++) {
+        const part p = part_of(w, b, k);
+        int area = p.columns * p.rows, first = (int)drawn((uint32_t)area), aside = 1 + (int)drawn(12);
+        for (int i = 0; i < area; i++) {
+            int place = (i + first) % area, above = i == 0 ? -by[k] : 0;
+            if (area > 2 && (i == 1 || i == 2))
+                above = i == 1 ? aside : -aside;
+            put_sample(w->centre, k, p.x0 + place % p.columns, p.y0 + place / p.columns, (uint8_t)(100 + above));
+        }
+    }
+}
+
+/* Each plane of each block at its limit, 1 below or 1 above it: the three digits of `n` for the first block, and others
+ * for the next. The other frame is 113 throughout, so that nothing moves; or Y is noise that passes wherever it is
+ * found. Each cap of the other frame has its turn. */
+static void check_limits(int width, int height, unsigned n, int moved)
+{
+    static const rule copied = {WHOLE, 3}, filtered = {HALF, 3};
+    window w = window_of(width, height, 2, n % 2, 6);
+    const size_t other = 1 - w.centre;
+    uint32_t accepted = 0;
+    lend_frames(&w, (uint32_t)width + n % 3, (uint32_t)(width + 1) / 2 + n / 3 % 3);
+    memset(at_bytes(&picture), 200, picture.length);
+    for (int b = 0; b < blocks_of(&w); b++) {
+        unsigned digits = n + 10 * (unsigned)b;
+        const int by[3] = {(int)(digits / 9 % 3) - 1, (int)(digits / 3 % 3) - 1, (int)(digits % 3) - 1};
+        put_limits(&w, b, by);
+        accepted += (moved || by[0] < 0) && by[1] < 0 && by[2] < 0 ? 1 : 0;
+    }
+    for (int k = 0; k < 3; k++)
+        for (int i = 0; i < plane_of(other, k).columns * plane_of(other, k).rows; i++)
+            put_nth(other, k, i, 113);
+    for (size_t g = 0; g < 2 && moved; g++)
+        for (int i = 0; i < width * height; i++)
+            put_nth(g, 0, i, 90 + (int)drawn(12));
+    put_cap(other, (n + (uint32_t)(width + height)) % 17);
+    keep_bytes(&picture);
+    check_window(&w);
+    CHECK(count_accepted(copied, &w) == accepted && count_accepted(filtered, &w) == accepted);
+}
+
+/* Whole blocks, and blocks cut to 1, 2, 3, 8 and 15 columns or rows, alone or behind a whole one. */
+static void limits(void)
+{
+    static const int sides[12] = {1, 2, 3, 8, 15, 16, 17, 18, 19, 24, 31, 32};
+    for (int i = 0; i < 144; i++)
+        for (unsigned n = 0; n < 27; n++)
+            check_limits(sides[i % 12], sides[i / 12], n, 0);
+    for (int i = 0; i < 144; i++)
+        for (unsigned n = 0; n < 9; n++)
+            check_limits(sides[i % 12], sides[i / 12], n, 1);
+}
+
+/* Columns, or turned rows, of 60 and 140 by turns: half a sample aside they are 64 * 60 + 64 * 140, and so 100. */
+static int stripe(int x, int y, int turned)
+{
+    return (turned ? y : x) % 2 == 0 ? 60 : 140;
+}
+
+/* The middle block of nine is accepted with displaced samples that are the centre's, or has no share. */
+static void check_middle(const window *w, enum builder which, int accepted)
+{
+    static held h;
+    build_window(which, w, &h);
+    for (int k = 0; k < 3; k++) {
+        const part p = part_of(w, 4, k);
+        uint32_t total = accepted ? 32 : 16;
+        int same = 1;
+        for (int i = 0; i < p.columns * p.rows; i++) {
+            int x = p.x0 + i % p.columns, y = p.y0 + i / p.columns;
+            size_t at = packed_start(w, k) + (size_t)(y * plane_of(0, k).columns + x);
+            uint32_t m = (uint32_t)sample_at(plane_of(0, k), x, y);
+            same = same && h.output[at] == m && h.weights[at] == total && h.sums[at] == total * m;
+        }
+        CHECK(same);
+    }
+}
+
+/* U and V of the other frame are stripes; the centre's are the same ones, or 100. The middle block is found d samples
+ * across them. Filtered, an odd d makes them 100. Copied, they are 40 away from 100; from the same ones 80, or 0 where
+ * d is halved to an even number. */
+static void check_stripes(int d, int along, int turned, int both)
+{
+    int copied = both && d / 2 % 2 == 0, filtered = d % 2 != 0 ? !both : copied;
+    window w = lend_moved(turned ? along : d, turned ? d : along, 6);
+    for (int k = 1; k <= 2; k++)
+        for (int i = 0; i < 24 * 24; i++) {
+            put_nth(0, k, i, both ? stripe(i % 24, i / 24, turned) : 100);
+            put_nth(1, k, i, stripe(i % 24, i / 24, turned));
+        }
+    keep_bytes(&picture);
+    check_middle(&w, THREE_PLANES, copied);
+    check_middle(&w, THREE_HALF, filtered);
+    check_window(&w);
+}
+
+/* Up to 12, so that no pass reads past the plane's edge. */
+static void stripes(void)
+{
+    static const int aside[3] = {-1, 0, 2};
+    for (int d = -12; d <= 12; d++)
+        for (int i = 0; i < 12; i++)
+            check_stripes(d, aside[i / 4], i % 2, i / 2 % 2);
+}
+
+/* Three other frames, each of which one plane excludes, or none does: a digit of `kind` for each, 3 for none. Where no
+ * frame is left, sums of 16 times the centre are written: nothing is only cropped. */
+static void excluded_frames(uint8_t strength)
+{
+    static held h;
+    for (unsigned kind = 0; kind < 64; kind++) {
+        window w = window_of(24, 20, 4, kind % 4, strength);
+        uint32_t accepted = 0;
+        unsigned digits = kind;
+        lend_frames(&w, 27, 13);
+        for (size_t g = 0; g < 4; g++) {
+            int by = 3;
+            if (g != w.centre) {
+                by = (int)(digits % 4);
+                digits /= 4;
+                accepted += by == 3 ? 4 : 0;
+            }
+            for (int k = 0; k < 3; k++)
+                for (int i = 0; i < plane_of(g, k).columns * plane_of(g, k).rows; i++)
+                    put_nth(g, k, i, 100 + i % 7 + (k == by ? 40 : 0));
+            put_cap(g, (kind + (uint32_t)g) % 17);
+        }
+        keep_bytes(&picture);
+        for (int which = THREE_PLANES; which <= THREE_HALF_OF_RECORDS; which++) {
+            build_window((enum builder)which, &w, &h);
+            CHECK(h.accepted == accepted);
+            CHECK(accepted != 0 || is_without_shares(&w, &h));
+        }
+        check_window(&w);
+    }
 }
 
 /* That the windows above were of every kind: each component in each direction, odd and even ones beside one another. */
@@ -2338,6 +2694,11 @@ static void kinds_of_windows(void)
     for (int i = 0; i < 4; i++)
         CHECK(parities[i / 2][i % 2] > 200);
     CHECK(met_even > 20 && met_cropped > 20 && met_other_u > 500 && met_other_v > 500);
+    for (int by = WHOLE; by <= HALF; by++) {
+        for (int planes = 0; planes < 8; planes++)
+            CHECK(met_passing[by][planes] > 50);
+        CHECK(met_none_less[by] > 100 && met_none_left[by] > 100 && met_by_one[by] > 20);
+    }
 }
 
 int main(void)
@@ -2390,12 +2751,20 @@ int main(void)
     legal_checks();
     leftover_numbers(FROM_NUMBERS);
     leftover_numbers(HALF_SAMPLE);
+    leftover_numbers(THREE_PLANES);
+    leftover_numbers(THREE_HALF);
     caps();
     for (int which = CHECKS_ONLY; which <= LAST_BUILDER; which++)
         builds_refused_in_order((enum builder)which);
     half_samples_by_hand();
     moved_windows();
-    windows_of_noise();
+    windows_of_noise(0);
+    windows_of_noise(1);
+    sums_by_hand();
+    limits();
+    stripes();
+    excluded_frames(1);
+    excluded_frames(6);
     kinds_of_windows();
     printf("calls: %u checks, %u failed\n", checks, failed);
     return failed == 0 ? 0 : 1;
