@@ -1,12 +1,26 @@
-//! Writes the sample clip to standard output: 5 noisy I420 frames of 64 by 48. A texture moves by (-2, -1) samples a
-//! frame, left and up; whole numbers only, so that every machine writes the same bytes.
+//! Writes a sample clip to standard output, as raw I420 frames of 64 by 48: `moving`, 5 noisy frames of a texture that
+//! moves by (-2, -1) samples a frame, left and up; or `lamp`, 3 frames of a texture whose left half is still and whose
+//! right half moves by one sample a frame to the left, with noise but in one block of the left half, whose U is 40 more
+//! in the last frame. Whole numbers only, so that every machine writes the same bytes.
 
 use std::io::Write;
 
 const WIDTH: i64 = 64;
 const HEIGHT: i64 = 48;
 
+// The lamp's block, by its column and row in the grid.
+const LAMP: (i64, i64) = (1, 2);
+
 fn main() {
+    let bytes = match std::env::args().nth(1).as_deref() {
+        Some("moving") => moving(),
+        Some("lamp") => lamp(),
+        _ => panic!("expected moving or lamp"),
+    };
+    std::io::stdout().write_all(&bytes).expect("standard output takes the clip");
+}
+
+fn moving() -> Vec<u8> {
     let mut noise = Noise(1);
     let mut bytes = Vec::new();
     for g in 0..5 {
@@ -19,7 +33,27 @@ fn main() {
             }
         }
     }
-    std::io::stdout().write_all(&bytes).expect("standard output takes the clip");
+    bytes
+}
+
+fn lamp() -> Vec<u8> {
+    let mut noise = Noise(9);
+    let mut bytes = Vec::new();
+    for g in 0..3 {
+        let seen = |x: i64| if x < WIDTH / 2 { x } else { x + g };
+        for (y, x) in places(WIDTH, HEIGHT) {
+            let added = if (x / 16, y / 16) == LAMP { 0 } else { noise.within(4) };
+            bytes.push((texture(seen(x), y, 1) + added).clamp(0, 255) as u8);
+        }
+        for plane in 2..4 {
+            for (y, x) in places(WIDTH / 2, HEIGHT / 2) {
+                let lit = if (g, plane) == (2, 2) { 40 } else { 0 };
+                let added = if (x / 8, y / 8) == LAMP { lit } else { noise.within(3) };
+                bytes.push((96 + texture(seen(2 * x), 2 * y, plane) / 4 + added).clamp(0, 255) as u8);
+            }
+        }
+    }
+    bytes
 }
 
 fn places(width: i64, height: i64) -> impl Iterator<Item = (i64, i64)> {

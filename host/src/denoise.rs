@@ -2,7 +2,7 @@
 
 use crate::failure::Failure;
 use crate::files::{append, opened, room, zeros};
-use crate::model::{self, Chroma, Filled, Frame, MAX_CAP};
+use crate::model::{self, Chroma, Filled, Frame, MAX_CAP, Planes, Rule};
 use crate::names::{Named, apart};
 use crate::outputs::{self, Content};
 use crate::progress::Progress;
@@ -11,8 +11,8 @@ use crate::words::Words;
 use std::fs::File;
 use std::path::Path;
 
-const OPTIONS: [&str; 8] =
-    ["--width", "--height", "--strength", "--centre", "--caps", "--chroma", "--sums", "--weights"];
+const OPTIONS: [&str; 9] =
+    ["--width", "--height", "--strength", "--centre", "--caps", "--chroma", "--planes", "--sums", "--weights"];
 
 pub fn run(words: &[String]) -> Result<(), Failure> {
     let words = Words::parse(words, &OPTIONS)?;
@@ -20,8 +20,7 @@ pub fn run(words: &[String]) -> Result<(), Failure> {
     let strength: u8 = words.number("--strength", u8::MAX)?;
     let centre: u32 = words.number("--centre", u32::MAX)?;
     let caps = words.list("--caps", u32::MAX)?;
-    let chroma = words.one_of("--chroma", &[("whole", Chroma::Whole), ("half", Chroma::Half)])?;
-    let chroma = chroma.unwrap_or(Chroma::Whole);
+    let rule = rule_of(&words)?;
     let [input, output] = words.files("IN.i420 and OUT.i420")?;
     let outputs = Outputs::named(&words, &input, &output)?;
     let size = Size::new(width, height);
@@ -31,14 +30,11 @@ pub fn run(words: &[String]) -> Result<(), Failure> {
     let frames = records(&input, &size, count, caps)?;
     let mut filled = lent(&size)?;
     let (samples, others) = (filled.output.len(), count.saturating_sub(1));
-    let by = match chroma {
-        Chroma::Whole => "",
-        Chroma::Half => ", with half samples in U and V",
-    };
+    let by = said(rule);
     note(&format!(
         "denoise: {count} frames of {samples} samples: {others} others into frame {centre} at strength {strength}{by}"
     ));
-    let built = model::build(&bytes, &frames, centre as usize, strength, chroma, &mut filled)?;
+    let built = model::build(&bytes, &frames, centre as usize, strength, rule, &mut filled)?;
     let cropped = strength == 0 || others == 0;
     if cropped {
         filled.sums.clear();
@@ -51,6 +47,22 @@ pub fn run(words: &[String]) -> Result<(), Failure> {
     let blocks = u64::from(width.div_ceil(16)) * u64::from(height.div_ceil(16)) * others;
     note(&format!("denoise: {} of {blocks} blocks accepted; {} written", built.accepted, output.display()));
     Ok(())
+}
+
+// Without the options U and V are copied, and a block is accepted on luma.
+fn rule_of(words: &Words) -> Result<Rule, Failure> {
+    let chroma = words.one_of("--chroma", &[("whole", Chroma::Whole), ("half", Chroma::Half)])?;
+    let planes = words.one_of("--planes", &[("luma", Planes::Luma), ("three", Planes::Three)])?;
+    Ok(Rule { chroma: chroma.unwrap_or(Chroma::Whole), planes: planes.unwrap_or(Planes::Luma) })
+}
+
+fn said(rule: Rule) -> &'static str {
+    match (rule.chroma, rule.planes) {
+        (Chroma::Whole, Planes::Luma) => "",
+        (Chroma::Half, Planes::Luma) => ", with half samples in U and V",
+        (Chroma::Whole, Planes::Three) => ", blocks accepted on three planes",
+        (Chroma::Half, Planes::Three) => ", with half samples in U and V, blocks accepted on three planes",
+    }
 }
 
 // Where the picture goes, and its sums and weights where they are asked for.

@@ -21,7 +21,7 @@ const HELP: &str = "\
 vp8model: a proved model of a VP8 encoder's picture pre-filter and luma motion search
 
   vp8model denoise --width W --height H --strength S --centre C [--caps C0,C1,..] [--chroma whole|half]
-                   [--sums FILE] [--weights FILE] IN.i420 OUT.i420
+                   [--planes luma|three] [--sums FILE] [--weights FILE] IN.i420 OUT.i420
 
     Reads raw I420 frames (Y, U, V, packed, 8 bits; chroma is half of each side, rounded up), as many as the file's
     length gives, and writes frame C (counted from 0) with the others blended in, packed. Strength 0 writes the
@@ -33,7 +33,11 @@ vp8model: a proved model of a VP8 encoder's picture pre-filter and luma motion s
     a sample, where the centre weighs 16. A frame with cap 0 has no part in the picture. The centre's cap is not used.
     Without --caps every cap is 16, which bounds no weight; the model refuses 17 to 4294967295.
     --chroma says how a block's displacement, which is found in Y, is halved for U and V: toward zero to whole samples
-    (whole, the default), or with half samples where it is odd, as in RFC 6386 (half). It changes nothing in Y.
+    (whole, the default), or with half samples where it is odd, as in RFC 6386 (half). Where --planes is not three, it
+    changes nothing in Y.
+    --planes says on which planes a frame's block is accepted, as one that is like the centre's: on Y alone (luma, the
+    default), or on Y, U and V, each of which must pass, so that a block whose colour alone changes has no part in the
+    picture (three).
 
   vp8model search --width W --height H [--limit N] [--bitstream V] REFERENCE.y SOURCE.y
 

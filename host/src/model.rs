@@ -29,6 +29,22 @@ pub enum Chroma {
     Half,
 }
 
+/// Which planes a block is accepted on.
+#[derive(Clone, Copy)]
+pub enum Planes {
+    /// Y alone.
+    Luma,
+    /// Y, U and V, each of which must pass.
+    Three,
+}
+
+/// What a builder goes by.
+#[derive(Clone, Copy)]
+pub struct Rule {
+    pub chroma: Chroma,
+    pub planes: Planes,
+}
+
 #[repr(C)]
 pub struct Build {
     refusal: u32,
@@ -81,6 +97,14 @@ unsafe extern "C" {
         bytes: *const u8, bytes_len: usize, numbers: *const u32, numbers_len: usize, centre: usize, strength: u8,
         output: *mut u8, output_len: usize, sums: *mut u32, sums_len: usize, weights: *mut u32, weights_len: usize,
     ) -> Build;
+    fn vp8model_build_three_planes(
+        bytes: *const u8, bytes_len: usize, numbers: *const u32, numbers_len: usize, centre: usize, strength: u8,
+        output: *mut u8, output_len: usize, sums: *mut u32, sums_len: usize, weights: *mut u32, weights_len: usize,
+    ) -> Build;
+    fn vp8model_build_three_planes_half_sample(
+        bytes: *const u8, bytes_len: usize, numbers: *const u32, numbers_len: usize, centre: usize, strength: u8,
+        output: *mut u8, output_len: usize, sums: *mut u32, sums_len: usize, weights: *mut u32, weights_len: usize,
+    ) -> Build;
     fn vp8model_small_diamond_search_luma(
         plane: *const u8, len: usize, stride: usize, width: usize, height: usize, mb_col: usize, mb_row: usize,
         src_y: &[u8; 256], center_row: i16, center_col: i16, max_iters: u32,
@@ -105,6 +129,12 @@ unsafe extern "C" {
     ) -> Allowed;
 }
 
+/// The builders that take frames as numbers.
+#[rustfmt::skip]
+type OverNumbers = unsafe extern "C" fn(
+    *const u8, usize, *const u32, usize, usize, u8, *mut u8, usize, *mut u32, usize, *mut u32, usize,
+) -> Build;
+
 /// What a build fills: the picture, packed, its sums and its total weights.
 pub struct Filled {
     pub output: Vec<u8>,
@@ -114,17 +144,23 @@ pub struct Filled {
 
 #[rustfmt::skip]
 pub fn build(
-    bytes: &[u8], frames: &[Frame], centre: usize, strength: u8, chroma: Chroma, filled: &mut Filled,
+    bytes: &[u8], frames: &[Frame], centre: usize, strength: u8, rule: Rule, filled: &mut Filled,
 ) -> Result<Build, Failure> {
+    let over_numbers = match (rule.planes, rule.chroma) {
+        (Planes::Luma, Chroma::Whole) => None,
+        (Planes::Luma, Chroma::Half) => Some(vp8model_build_half_sample as OverNumbers),
+        (Planes::Three, Chroma::Whole) => Some(vp8model_build_three_planes as OverNumbers),
+        (Planes::Three, Chroma::Half) => Some(vp8model_build_three_planes_half_sample as OverNumbers),
+    };
     let Filled { output, sums, weights } = filled;
     // SAFETY: each pointer is that of a slice of the length beside it, and no two share bytes; records are numbers.
     let built = unsafe {
-        match chroma {
-            Chroma::Whole => vp8model_build_arnr_altref(
+        match over_numbers {
+            None => vp8model_build_arnr_altref(
                 bytes.as_ptr(), bytes.len(), frames.as_ptr(), frames.len(), centre, strength,
                 output.as_mut_ptr(), output.len(), sums.as_mut_ptr(), sums.len(), weights.as_mut_ptr(), weights.len(),
             ),
-            Chroma::Half => vp8model_build_half_sample(
+            Some(call) => call(
                 bytes.as_ptr(), bytes.len(), frames.as_ptr().cast(), NUMBERS_PER_FRAME * frames.len(), centre, strength,
                 output.as_mut_ptr(), output.len(), sums.as_mut_ptr(), sums.len(), weights.as_mut_ptr(), weights.len(),
             ),
