@@ -6,8 +6,8 @@
  * two blocks; the products of a filter, from which its sample has to follow; the vectors of a round's tries, of a
  * refinement's square and of the pairs of `orders`, of which it gives the SADs; and the grants of an allowance, from
  * which its lists and its comparisons have to follow. Searches and SADs are those of version 0, but in `bilinear`,
- * `picture` and `allowance`; every cap is 16, but in `caps`. The program ends with status 1 where something that has to
- * agree does not.
+ * `picture` and `allowance`; every cap is 16, but in `caps` and `three-planes`. The program ends with status 1 where
+ * something that has to agree does not.
  */
 #include "vp8model.h"
 
@@ -97,6 +97,19 @@ static vp8model_build build_half(const uint8_t *bytes, size_t bytes_len, const v
     lend_slices();
     return vp8model_build_half_sample(bytes, bytes_len, (const uint32_t *)frames, VP8MODEL_NUMBERS_PER_FRAME * count,
                                       centre, strength, output, MOST, sums, MOST, weights, MOST);
+}
+
+/* On three planes, with half samples or without; the records are passed as their numbers. */
+static vp8model_build build_three(int half, const uint8_t *bytes, size_t bytes_len, const vp8model_frame *frames,
+                                  size_t count, size_t centre, uint8_t strength)
+{
+    const uint32_t *numbers = (const uint32_t *)frames;
+    lend_slices();
+    if (half)
+        return vp8model_build_three_planes_half_sample(bytes, bytes_len, numbers, VP8MODEL_NUMBERS_PER_FRAME * count,
+                                                       centre, strength, output, MOST, sums, MOST, weights, MOST);
+    return vp8model_build_three_planes(bytes, bytes_len, numbers, VP8MODEL_NUMBERS_PER_FRAME * count, centre, strength,
+                                       output, MOST, sums, MOST, weights, MOST);
 }
 
 static void print_words(const char *what, const uint32_t *v, size_t n)
@@ -757,6 +770,166 @@ static void half_passes(void)
     close_case();
 }
 
+/* ---- three planes: pictures of 1 by 1, single blocks and two beside one another, stripes of 48 by 1 or of 1 by 48 */
+
+static const uint8_t three_bytes[] = {
+    100, 60, 200, /* 0: the centre */
+    104, 60, 240, /* 3: A */
+    113, 60, 200, /* 6: C */
+    100, 72, 200, /* 9: E */
+    100, 73, 200, /* 12: F */
+    100, 60, 188, /* 15: G */
+    100, 60, 187, /* 18: H */
+    112, 72, 188, /* 21: I */
+};
+
+/* The centre and one or two others, with these caps, accepted by luma alone or on three planes. A picture of one sample
+ * has one displaced sample in each plane, so that both rules of U and V give the same. */
+static void three_build(const char *what, int three, const uint32_t *starts, const uint32_t *caps_of, size_t others,
+                        uint8_t strength)
+{
+    vp8model_frame frames[3] = {small_frame(1, 0, 16), small_frame(1, 0, 16), small_frame(1, 0, 16)};
+    for (size_t g = 0; g < others; g++)
+        frames[1 + g] = small_frame(1, starts[g], caps_of[g]);
+    if (three) {
+        uint32_t held[2 * MOST];
+        vp8model_build of_half = build_three(1, three_bytes, sizeof three_bytes, frames, 1 + others, 0, strength);
+        memcpy(held, sums, sizeof sums);
+        memcpy(held + MOST, weights, sizeof weights);
+        vp8model_build b = build_three(0, three_bytes, sizeof three_bytes, frames, 1 + others, 0, strength);
+        require(b.refusal == 0 && of_half.refusal == 0 && b.accepted == of_half.accepted
+                    && memcmp(held, sums, sizeof sums) == 0 && memcmp(held + MOST, weights, sizeof weights) == 0,
+                "the two rules differ in a picture of one sample");
+        printf("%s, three: accepted %" PRIu32, what, b.accepted);
+    } else {
+        vp8model_build b = build(three_bytes, sizeof three_bytes, frames, 1 + others, 0, strength, MOST, MOST);
+        require(b.refusal == 0, "a window of 1 by 1 was refused");
+        printf("%s, luma: accepted %" PRIu32, what, b.accepted);
+    }
+    print_small(1);
+}
+
+static void three_planes(void)
+{
+    static const char *const names[7] = {"A", "C", "E", "F", "G", "H", "I"};
+    static const uint32_t starts[7] = {3, 6, 9, 12, 15, 18, 21};
+    static const uint32_t f_and_h[] = {12, 18}, a_and_e[] = {3, 9}, caps_16[] = {16, 16}, caps_0[] = {0, 0};
+    open_case("three-planes");
+    for (int i = 0; i < 7; i++) {
+        three_build(names[i], 0, starts + i, caps_16, 1, 6);
+        three_build(names[i], 1, starts + i, caps_16, 1, 6);
+    }
+    three_build("A and E", 0, a_and_e, caps_16, 2, 6);
+    three_build("A and E", 1, a_and_e, caps_16, 2, 6);
+    three_build("F and H", 1, f_and_h, caps_16, 2, 6);
+    three_build("E with cap 0", 1, starts + 2, caps_0, 1, 6);
+    three_build("F with cap 0", 1, starts + 3, caps_0, 1, 6);
+    three_build("F, strength 0", 1, starts + 3, caps_16, 1, 0);
+    close_case();
+}
+
+/* Two frames of 100 throughout, but that in U or in V of the other, the last samples of a block, one for each 100 of the
+ * SAD that it is to have there, are 200, and the one before them has what is left. */
+static uint8_t area_bytes[2 * MOST];
+
+static void lend_areas(uint32_t width, uint32_t height, int plane, const uint32_t *sads)
+{
+    uint32_t columns = (width + 1) / 2, rows = (height + 1) / 2;
+    uint8_t *other = area_bytes + width * height + 2 * columns * rows;
+    uint8_t *first = other + width * height + (plane == 1 ? 0 : columns * rows);
+    memset(area_bytes, 100, sizeof area_bytes);
+    for (uint32_t j = 0; 8 * j < columns; j++) {
+        uint32_t across = columns - 8 * j < 8 ? columns - 8 * j : 8;
+        uint32_t left = sads[j];
+        for (uint32_t i = across * rows; 0 < i; i--) {
+            uint32_t difference = left < 100 ? left : 100, at = i - 1;
+            first[at / across * columns + 8 * j + at % across] = (uint8_t)(100 + difference);
+            left -= difference;
+        }
+        require(left == 0, "a SAD does not fit into its block");
+    }
+}
+
+/* One row of blocks: the accepted ones, and the total of each one's first sample of Y. Both rules give the same, as
+ * nothing moves. */
+static void print_areas(uint32_t width, uint32_t height, int plane, uint32_t first, uint32_t second)
+{
+    const uint32_t columns = (width + 1) / 2, rows = (height + 1) / 2, samples = width * height + 2 * columns * rows;
+    const uint32_t u = width * height, v = u + columns * rows, sads[2] = {first, second};
+    const vp8model_frame frames[2] = {
+        {width, height, 0, u, v, width, columns, 16},
+        {width, height, samples, samples + u, samples + v, width, columns, 16},
+    };
+    lend_areas(width, height, plane, sads);
+    vp8model_build of_half = build_three(1, area_bytes, sizeof area_bytes, frames, 2, 0, 6);
+    vp8model_build b = build_three(0, area_bytes, sizeof area_bytes, frames, 2, 0, 6);
+    require(b.refusal == 0 && of_half.refusal == 0 && b.accepted == of_half.accepted, "the two rules differ");
+    printf("%" PRIu32 " by %" PRIu32 ", %s %" PRIu32, width, height, plane == 1 ? "U" : "V", first);
+    if (16 < width)
+        printf(" and %" PRIu32, second);
+    printf(": accepted %" PRIu32 "; Y total %" PRIu32, b.accepted, weights[0]);
+    if (16 < width)
+        printf(" and %" PRIu32, weights[16]);
+    printf("\n");
+}
+
+static void three_areas(void)
+{
+    static const uint32_t limits[6][3] = {{16, 16, 832}, {15, 15, 832}, {8, 8, 208},
+                                          {3, 3, 52},    {1, 16, 104},  {1, 1, 13}};
+    open_case("three-areas");
+    for (int i = 0; i < 6; i++)
+        for (int plane = 1; plane <= 2; plane++) {
+            print_areas(limits[i][0], limits[i][1], plane, limits[i][2] - 1, 0);
+            print_areas(limits[i][0], limits[i][1], plane, limits[i][2], 0);
+        }
+    print_areas(17, 16, 1, 0, 103);
+    print_areas(17, 16, 1, 0, 104);
+    print_areas(17, 16, 1, 832, 103);
+    close_case();
+}
+
+/* The lines of the half samples, but that U and V of the other frame are 60 and 140 by turns, and those of the centre
+ * too or 100. */
+static void lend_stripes(int moved, int both)
+{
+    lend_line(moved);
+    for (int i = 0; i < LINE; i++) {
+        line_bytes[LINE_SAMPLES + LINE + i] = i % 2 == 0 ? 60 : 140;
+        if (both)
+            line_bytes[LINE + i] = i % 2 == 0 ? 60 : 140;
+    }
+}
+
+/* Y at sample 24 and U and V at sample 12 of their lines, which the middle block covers. */
+static void print_stripes(const char *what, int half, int moved, int both, uint32_t width, uint32_t height)
+{
+    const vp8model_frame frames[2] = {{width, height, 0, 48, 72, width, (width + 1) / 2, 16},
+                                      {width, height, 96, 144, 168, width, (width + 1) / 2, 16}};
+    lend_stripes(moved, both);
+    vp8model_build b = build_three(half, line_bytes, sizeof line_bytes, frames, 2, 0, 6);
+    require(b.refusal == 0, "a line was refused");
+    printf("%s, %s = %d, %s: accepted %" PRIu32, both ? "stripes" : "100", what, moved, half ? "half" : "whole",
+           b.accepted);
+    print_entry("; Y", 24);
+    print_entry("; U", LINE + 12);
+    print_entry("; V", LINE + LINE / 2 + 12);
+    printf("\n");
+}
+
+static void three_rules(void)
+{
+    static const int components[4] = {-1, 1, 2, 4};
+    open_case("three-rules");
+    for (int both = 0; both < 2; both++)
+        for (size_t i = 0; i < 4; i++) {
+            print_stripes("dx", 0, components[i], both, LINE, 1);
+            print_stripes("dx", 1, components[i], both, LINE, 1);
+            print_stripes("dy", 1, components[i], both, 1, LINE);
+        }
+    close_case();
+}
+
 /* ---- bilinear rows: four samples a b over c d, the first that of the macroblock, in a halo of 9 */
 
 /* The first sample of the macroblock, or the one below it. */
@@ -1100,6 +1273,9 @@ int main(void)
     two_passes();
     half_components();
     half_passes();
+    three_planes();
+    three_areas();
+    three_rules();
     bilinear();
     picture();
     allowance();
