@@ -434,7 +434,7 @@ fn eight_at(
     sad8(&a[i..i + 8], &b[j..j + 8])
 }
 
-// The SAD of two blocks of 8 columns up to a ceiling.
+// The SAD of two blocks of 8 columns and n rows up to a ceiling.
 pub(crate) fn eight_sad(
     a: &[u8],
     at: usize,
@@ -442,15 +442,15 @@ pub(crate) fn eight_sad(
     b: &[u8],
     from: usize,
     across: usize,
-    high: usize,
+    n: usize,
     ceiling: u32,
 ) -> Ceiled
-    requires { ⌜ ((r : ℕ) → r < high → (at + r * stride + 8 ≤ length (now a)) × (from + r * across + 8 ≤ length (now b))) × (high ≤ 16) ⌝ }
-    ensures { λ r. ⌜ CeiledIs (eightApart (now (a .entry)) at stride (now (b .entry)) from across) high ceiling r ⌝ }
+    requires { ⌜ ((r : ℕ) → r < n → (at + r * stride + 8 ≤ length (now a)) × (from + r * across + 8 ≤ length (now b))) × (n ≤ 16) ⌝ }
+    ensures { λ r. ⌜ CeiledIs (eightApart (now (a .entry)) at stride (now (b .entry)) from across) n ceiling r ⌝ }
 {
     let mut left = ceiling;
     let mut r: usize = 0;
-    while r < high {
+    while r < n {
         let row = eight_at(a, at, stride, b, from, across, r);
         r += 1;
         if left <= row {
@@ -463,7 +463,7 @@ pub(crate) fn eight_sad(
     }
     Ceiled {
         sad: ceiling - left,
-        rows: high as u32,
+        rows: n as u32,
     }
 }
 

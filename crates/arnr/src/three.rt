@@ -122,10 +122,10 @@ fn filtered_passes(block: &[u8], f: Frame, k: usize, b: Block, out: &[u8]) -> bo
 {
     let p = accumulate::plane_of(f, k);
     let at = accumulate::offset_of(f.width as usize, f.height as usize, k);
-    let c = accumulate::block_in(k, b);
-    let ceiling = limit(c);
-    let read = filtered_sad(block, p, c, at, out, ceiling);
-    read.sad < ceiling
+    let covered = accumulate::block_in(k, b);
+    let most = limit(covered);
+    let read = filtered_sad(block, p, covered, at, out, most);
+    read.sad < most
 }
 
 // Whether U and V of a block pass at their copied samples, where the choice asks them.

@@ -4,14 +4,19 @@ use mathlib.Core.Bool.{Bool, true, false, cond, _&&_}
 use Prim.Native.Nat.{ℕ, zero, suc, _+_, _-_, _*_, _/_, _≤_, _<_, min}
 use native.Mathlib.Omega.{arith}
 use borrow.Author.Tests.{lt-ltb, le-ltb}
+use lib.IntN.{pos}
 use Rattle.laws.proofs.Each.{Each}
-use Rattle.laws.proofs.Sums.{sum-less, sum-over-less}
+use Rattle.laws.specs.Sums.{sumBelow}
+use Rattle.laws.proofs.Sums.{sum-same, sum-less, sum-over-less}
+use Rattle.prediction.specs.Samples.{distance}
 use Rattle.window.specs.Frames.{frameCount, frameAt}
+use Rattle.denoiser.specs.declared.Block.{Block}
 use Rattle.denoiser.specs.declared.BuildAnswer.{BuildAnswer}
 use Rattle.denoiser.specs.declared.Choice.{Choice}
-use Rattle.denoiser.specs.Grid.{gridBlock, gridSide, unitOf}
-use Rattle.denoiser.specs.Window.{Picture, Other, Scene, Window, gate, shareOf, acceptedIn, acceptedBlocks, costOf, displacementOf, sadAccepted, blockAccepted}
-use Rattle.denoiser.specs.Chroma.{planeSad, planePasses, threeAccepted, chosenAccepts, chosenSample, ruleOf, threePlanes, threeRule}
+use Rattle.denoiser.specs.Grid.{gridBlock, gridSide, blockIn, unitOf}
+use Rattle.denoiser.specs.Search.{sadOf}
+use Rattle.denoiser.specs.Window.{Picture, Other, Scene, Window, gate, centreAt, shareOf, acceptedIn, acceptedBlocks, costOf, displacementOf, sadAccepted, blockAccepted}
+use Rattle.denoiser.specs.Chroma.{sampleIn, planeSad, planePasses, threeAccepted, chosenAccepts, chosenSample, ruleOf, threePlanes, threeRule}
 use Rattle.denoiser.specs.Pictures.{pictureOf}
 use Rattle.denoiser.specs.Demand.{Held}
 use Rattle.denoiser.specs.Build.{Request, BuildInput, sceneOf, windowOf, cropped, builtOf, BuildBy}
@@ -80,6 +85,31 @@ module _ (half : Bool) (s : Scene) (f : Picture) (i j : ℕ) where
       never true false = refl
       never false u = refl
   one-fails (suc (suc (suc k))) h e = absurd (omega arith)
+
+-- a plane's SAD is that of the centre's samples and of those that the same call blends
+pub plane-blended : (half : Bool) (s : Scene) (f : Other) (i j k : ℕ)
+    → planeSad half s (f .picture) i j k
+    ≡ sumBelow (λ r. sumBelow (λ c.
+    distance (centreAt s k (blockIn k (gridBlock (s .width) (s .height) i j) .x + c) (blockIn k (gridBlock (s .width) (s .height) i j) .y + r))
+    (threeRule half s .sample f k (blockIn k (gridBlock (s .width) (s .height) i j) .x + c) (blockIn k (gridBlock (s .width) (s .height) i j) .y + r)))
+    (blockIn k (gridBlock (s .width) (s .height) i j) .columns)) (blockIn k (gridBlock (s .width) (s .height) i j) .rows)
+unfolding planeSad sadOf ruleOf chosenSample
+plane-blended half s f i j k =
+    sum-same _ _ (b .rows) (λ r hr. sum-same _ _ (b .columns) (λ c hc.
+    ap (distance (centreAt s k (b .x + c) (b .y + r)))
+    (ap (λ (a : ℕ). sampleIn half k (displacementOf s (f .picture) a j) (f .picture k) (pos (b .x + c)) (pos (b .y + r))) (sym (row k r hr))
+    ∙ ap (λ (e : ℕ). sampleIn half k (displacementOf s (f .picture) ((b .y + r) / unitOf k) e) (f .picture k) (pos (b .x + c)) (pos (b .y + r))) (sym (column k c hc)))))
+  where
+    b : Block
+    b = blockIn k (gridBlock (s .width) (s .height) i j)
+
+    column : (p c : ℕ) → c < blockIn p (gridBlock (s .width) (s .height) i j) .columns → (blockIn p (gridBlock (s .width) (s .height) i j) .x + c) / unitOf p ≡ j
+    column zero c h = omega arith
+    column (suc p) c h = omega arith
+
+    row : (p r : ℕ) → r < blockIn p (gridBlock (s .width) (s .height) i j) .rows → (blockIn p (gridBlock (s .width) (s .height) i j) .y + r) / unitOf p ≡ i
+    row zero r h = omega arith
+    row (suc p) r h = omega arith
 
 -- a block that one plane excludes adds nothing to any of the three planes, Y too, and is not counted
 pub record NoShare (half : Bool) (s : Scene) (f : Other) (k x y : ℕ) : Type 0 where

@@ -1,9 +1,9 @@
 -- The starred lines of document 01: rows of one table, each what a definition gives and what the paper says, under one claim; and the
 -- values of document 02's requests, rows of a second table under another. Assumes nothing.
-use mathlib.Core.Bool.{Bool, cond, _&&_, _||_}
+use mathlib.Core.Bool.{Bool, false, cond, _&&_, _||_}
 use mathlib.Core.List.{List, [], _∷_, map}
 use mathlib.Core.Path.{_≡_, refl}
-use Prim.Native.Nat.{ℕ}
+use Prim.Native.Nat.{ℕ, zero, suc, _-_}
 use lib.ListN.{getD}
 use lib.IntN.{ℤ, pos, _+ℤ_, _-ℤ_}
 use Rattle.laws.specs.Signed.{above, minus, floorDiv, eqZ}
@@ -21,8 +21,8 @@ use Rattle.window.specs.Layout.{sideOf}
 use Rattle.search.specs.Search.{onGrid}
 use Rattle.denoiser.specs.Grid.{gridBlock, blockIn}
 use Rattle.denoiser.specs.Search.{halved, sadOf, neighbourOf, neighboursOf, stepped, measuredBy, blockSearch}
-use Rattle.denoiser.specs.Chroma.{halfDown, halfRow, halfSample}
-use Rattle.denoiser.specs.Window.{Other, Scene, Window, gate, shareOf, totalAt, sumAt, denoisedAt, acceptedIn, acceptedBlocks}
+use Rattle.denoiser.specs.Chroma.{halfDown, halfRow, halfSample, planeSad, planePasses, threeAccepted}
+use Rattle.denoiser.specs.Window.{Picture, Other, Scene, Window, gate, shareOf, totalAt, sumAt, denoisedAt, acceptedIn, acceptedBlocks}
 use Rattle.denoiser.specs.Window.{costOf, displacementOf, sadAccepted, blockAccepted, displacedAt, arnrRule}
 
 -- 1 where the test holds, else 0
@@ -114,6 +114,25 @@ unclamped : ℤ
 unclamped =
     pos (filtered (sixtap 4) (λ j. above (floorDiv (products (sixtap 4) (λ i. spot (pos i -ℤ pos 2) (pos j -ℤ pos 2)) 6 +ℤ pos 64) 128)))
 
+-- a picture of w by h that is 100 in every sample; a frame that is 13 above it in U, but at (0, 0) less by `short`, and as the centre in Y
+-- and V; and of its first block the SAD of U, whether U passes, and whether the block is accepted on three planes
+plain : ℕ → ℕ → Scene
+plain w h = record { width = w; height = h; strength = 6; centre = λ k x y. 100 }
+
+tinted : ℕ → Picture
+tinted short zero x y = 100
+tinted short (suc zero) x y = 113 - cond (eqZ x (pos 0) && eqZ y (pos 0)) short 0
+tinted short (suc (suc k)) x y = 100
+
+sadOfU : ℕ → ℕ → ℕ → ℤ
+sadOfU w h short = pos (planeSad false (plain w h) (tinted short) 0 0 1)
+
+passesInU : ℕ → ℕ → ℕ → ℤ
+passesInU w h short = flag (planePasses false (plain w h) (tinted short) 0 0 1)
+
+acceptedOnThree : ℕ → ℕ → ℕ → ℤ
+acceptedOnThree w h short = flag (threeAccepted false (plain w h) (tinted short) 0 0)
+
 pub requested : List Row
 requested =
     -- request 7, centre 100, one other 104, strength 1: caps 16 and 8 give total 24, sum 2432, sample 101
@@ -141,8 +160,15 @@ requested =
     row (halfSpot (pos 1) (pos 0)) (pos 255) ∷ row (halfSpot (pos 0) (pos 1)) (pos 153) ∷ row (halfSpot (pos 1) (pos 1)) (pos 153) ∷
     -- where the pass down first would give 184, and no clamp between the passes 185
     row downFirst (pos 184) ∷ row unclamped (pos 185) ∷
+    -- request 9, chroma of 8 by 8, of a block of 16 by 16: 831 passes, 832 does not
+    row (sadOfU 16 16 1) (pos 831) ∷ row (passesInU 16 16 1) (pos 1) ∷ row (acceptedOnThree 16 16 1) (pos 1) ∷
+    row (sadOfU 16 16 0) (pos 832) ∷ row (passesInU 16 16 0) (pos 0) ∷ row (acceptedOnThree 16 16 0) (pos 0) ∷
+    -- of 1 by 1: 12 and 13
+    row (sadOfU 1 1 1) (pos 12) ∷ row (passesInU 1 1 1) (pos 1) ∷ row (sadOfU 1 1 0) (pos 13) ∷ row (passesInU 1 1 0) (pos 0) ∷
+    -- of a block of 1 by 16, 8 rows of 1: 103 and 104
+    row (sadOfU 1 16 1) (pos 103) ∷ row (passesInU 1 16 1) (pos 1) ∷ row (sadOfU 1 16 0) (pos 104) ∷ row (passesInU 1 16 0) (pos 0) ∷
     []
 
 pub request-values : map (λ (r : Row). r .given) requested ≡ map (λ (r : Row). r .paper) requested
-unfolding requested row flat capped total sum sample blocks spot halfSpot downFirst unclamped sampleOf halfSample horizontalAt verticalAt filtered products sixtap sixtapRows totalAt sumAt denoisedAt totalWeight weightedSum denoised sumBelow sumOver shareOf arnrRule gate cappedWeight weightRead weightOf scale acceptedIn acceptedBlocks costOf displacementOf blockAccepted displacedAt sadOf neighbourOf neighboursOf stepped measuredBy blockSearch bestIn bestAmong betterOf
+unfolding requested row flag plain tinted sadOfU passesInU acceptedOnThree planeSad planePasses threeAccepted flat capped total sum sample blocks spot halfSpot downFirst unclamped sampleOf halfSample horizontalAt verticalAt filtered products sixtap sixtapRows totalAt sumAt denoisedAt totalWeight weightedSum denoised sumBelow sumOver shareOf arnrRule gate cappedWeight weightRead weightOf scale acceptedIn acceptedBlocks costOf displacementOf blockAccepted displacedAt sadOf neighbourOf neighboursOf stepped measuredBy blockSearch bestIn bestAmong betterOf
 request-values = refl

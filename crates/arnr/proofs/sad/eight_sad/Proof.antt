@@ -9,10 +9,10 @@ use Rattle.arnr.proofs.sad.eight_sad.Statement.{statement}
 use Rattle.arnr.proofs.sad.eight_sad.Tie as tie
 
 abbrev Inv-loop : tie.InvT-loop
-Inv-loop a at stride b from across high ceiling left₀ r₀ left r = (r ≤ high) × Measuring (eightApart a at stride b from across) ceiling r left
+Inv-loop a at stride b from across n ceiling left₀ r₀ left r = (r ≤ n) × Measuring (eightApart a at stride b from across) ceiling r left
 
 abbrev μ-loop : tie.MeasureT-loop
-μ-loop a at stride b from across high ceiling left₀ r₀ left r = high - r
+μ-loop a at stride b from across n ceiling left₀ r₀ left r = n - r
 
 loop-holds : tie.Need-loop-holds Inv-loop μ-loop
 loop-holds c = (omega arith, none-measured _ _)
@@ -53,7 +53,7 @@ cast-t15 c = record { fits = omega (arith, c .before .before .before .before .pr
 returns-2 : tie.Need-returns-2 Inv-loop μ-loop
 returns-2 c =
     let l = c .before .loop in
-    let r-is : l .r ≡ c .before .before .before .before .args .high = omega (arith, l .inv .0) in
+    let r-is : l .r ≡ c .before .before .before .before .args .n = omega (arith, l .inv .0) in
     all-measured _ _ _ (l .left) (rw r-is at (l .inv .1))
 
 pub eight-sad-spec : {M : Type 1} → statement M
