@@ -1,6 +1,7 @@
 //! Finds the originals and writes, into OUT_DIR only, what the crate root includes:
 //! a `mod` line for each of the six files, derived copies of motion_search.rs and arnr.rs that count, one of
-//! motion_search.rs that takes a version, and of arnr.rs one that takes caps and one that moves chroma by half samples.
+//! motion_search.rs that takes a version, and of arnr.rs one that takes caps, one that moves chroma by half samples, and
+//! one of each of these two that asks U and V too whether a block is accepted.
 //! VP8_SOURCES names their folder; a relative one, as the default, is seen from the repository's root.
 //! Links the model's static library where MODEL_LIB names it, for the comparison and the benchmark.
 
@@ -10,6 +11,16 @@ use std::{env, fs};
 const DEFAULT: &str = "../shared/docs/src/src";
 const NAMES: [&str; 6] =
     ["motion_vector", "inverse_transform", "intra_predict", "motion_comp", "motion_search", "arnr"];
+
+const DERIVED: [&str; 7] = [
+    "counted_motion_search",
+    "counted_arnr",
+    "capped_arnr",
+    "half_sample_arnr",
+    "three_planes_arnr",
+    "three_planes_half_sample_arnr",
+    "versioned_motion_search",
+];
 
 fn main() {
     println!("cargo::rustc-check-cfg=cfg(sources_absent)");
@@ -29,6 +40,8 @@ fn main() {
         fs::write(out.join("counted_arnr.rs"), counted_builder(&folder)).unwrap();
         fs::write(out.join("capped_arnr.rs"), capped_builder(&folder)).unwrap();
         fs::write(out.join("half_sample_arnr.rs"), half_sample_builder(&folder)).unwrap();
+        fs::write(out.join("three_planes_arnr.rs"), three_planes_builder(&folder)).unwrap();
+        fs::write(out.join("three_planes_half_sample_arnr.rs"), three_planes_half_sample_builder(&folder)).unwrap();
         fs::write(out.join("versioned_motion_search.rs"), versioned_search(&folder)).unwrap();
     } else {
         println!("cargo::rustc-cfg=sources_absent");
@@ -62,9 +75,7 @@ fn mod_lines(folder: &Path, out: &Path) -> String {
         format!("#[allow(dead_code, unused_imports, clippy::all)]\n#[path = {path:?}]\npub mod {name};\n")
     };
     let mut lines: String = NAMES.into_iter().map(|name| line(file(folder, name), name)).collect();
-    let derived =
-        ["counted_motion_search", "counted_arnr", "capped_arnr", "half_sample_arnr", "versioned_motion_search"];
-    for name in derived {
+    for name in DERIVED {
         lines += &line(file(out, name), name);
     }
     lines
@@ -113,6 +124,53 @@ fn half_sample_builder(folder: &Path) -> String {
     let moved = "crate::halves::with_block_moved((fp, f.uv_stride), (cw, ch), (cbx, cby), (mvx, mvy))";
     let text = replaced(&text, call, &format!("                    let moved = {moved};\n{call}"), 1);
     replaced(&text, "(fp, f.uv_stride),\n", "(&moved, cw),\n", 1)
+}
+
+// The capped arnr.rs with one more test of a block, before its luma accumulation: over U and V as the accumulation will
+// read them, at half the displacement toward zero.
+fn three_planes_builder(folder: &Path) -> String {
+    asking_chroma(&capped_builder(folder), "(fp, f.uv_stride)", "(mvx / 2, mvy / 2)")
+}
+
+// The arnr.rs with half samples with the same test, over what motion_comp.rs predicts.
+fn three_planes_half_sample_builder(folder: &Path) -> String {
+    let moved = "crate::halves::with_block_moved((fp, f.uv_stride), (cw, ch), (bx / 2, by / 2), (mvx, mvy))";
+    asking_chroma(&half_sample_builder(folder), &format!("(&{moved}, cw)"), "(0, 0)")
+}
+
+// A block whose U or V is excluded is passed over as the original passes over one whose Y is, and noted. A plane is
+// excluded by the original's own test of Y, over samples that its `pel` fetches.
+fn asking_chroma(text: &str, displaced: &str, shift: &str) -> String {
+    let accumulation = "                // Luma accumulation.\n";
+    let test = format!(
+        "                let excluded = |ctr_plane: &[u8], fp: &[u8]| {{
+                    let chroma = (bx / 2, by / 2, bw.div_ceil(2), bh.div_ceil(2));
+                    chroma_excluded(ctr_plane, {displaced}, (cw, ch), chroma, {shift})
+                }};
+                if excluded(&out.u, f.u) || excluded(&out.v, f.v) {{
+                    crate::three::note_excluded();
+                    bx += 16;
+                    continue;
+                }}
+"
+    );
+    replaced(text, accumulation, &(test + accumulation), 1)
+        + "
+fn chroma_excluded(
+    ctr_plane: &[u8],
+    (f_plane, f_stride): (&[u8], usize),
+    (cw, ch): (usize, usize),
+    (cbx, cby, cbw, cbh): (usize, usize, usize, usize),
+    (cmvx, cmvy): (i32, i32),
+) -> bool {
+    let mut sad = 0u32;
+    for (xx, yy) in (0..cbw * cbh).map(|i| (cbx + i % cbw, cby + i / cbw)) {
+        let ref_px = pel(f_plane, f_stride, cw as i32, ch as i32, xx as i32 + cmvx, yy as i32 + cmvy);
+        sad += (ctr_plane[yy * cw + xx] as i32 - ref_px as i32).unsigned_abs();
+    }
+    sad / (cbw * cbh) as u32 > BLOCK_SAD_PER_PIXEL_CUTOFF
+}
+"
 }
 
 // motion_search.rs with a version as the last parameter of the SAD at any vector and of both refinements, handed on to

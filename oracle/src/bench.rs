@@ -5,16 +5,17 @@
 use crate::arnr::{ArnrConfig, ArnrPicture, build_arnr_altref};
 use crate::compare::content;
 use crate::encoder::I420Frame;
-use crate::halves::{by_the_originals, shifts};
+use crate::halves::shifts;
 use crate::model::{self, Luma};
 use crate::motion_comp::{BILINEAR_FILTERS, SIXTAP_FILTERS, fetch_luma_mb_halo, sixtap_mb_luma};
 use crate::motion_search::{self as original, LumaRef};
 use crate::motion_vector::Mv;
-use crate::paper::denoiser::{Built, Chroma, Window};
+use crate::paper::denoiser::{Built, Choice, Window};
 use crate::paper::search::{NO_CEILING, sad};
 use crate::pictures::{by_account, cut};
 use crate::refusals::{Frame, MAX_CAP, packed_size};
 use crate::rows::{self, Rows, Source};
+use crate::three::by_the_originals;
 use crate::versions;
 use std::hint::black_box;
 use std::time::{Duration, Instant};
@@ -632,8 +633,8 @@ fn beside_each_other(name: &str, window: &Window) -> [[f64; 2]; 2] {
         let got = call(black_box(window.bytes), black_box(&numbers), window.centre, window.strength, lent);
         *accepted = black_box(got).accepted.into();
     };
-    let first = |call: OverNumbers, chroma: Chroma| {
-        let expected = by_the_originals(window, &config, chroma);
+    let first = |call: OverNumbers, choice: Choice| {
+        let expected = by_the_originals(window, &config, choice);
         let samples = expected.output.len();
         let mut built =
             Built { output: vec![0; samples], sums: vec![0; samples], weights: vec![0; samples], accepted: 0 };
@@ -641,8 +642,8 @@ fn beside_each_other(name: &str, window: &Window) -> [[f64; 2]; 2] {
         assert!(built == expected, "{name}");
         built
     };
-    let mut half = first(model::build_half_sample, Chroma::Half);
-    let mut whole = first(model::build_from_numbers, Chroma::Whole);
+    let mut half = first(model::build_half_sample, Choice::HALF);
+    let mut whole = first(model::build_from_numbers, Choice::WHOLE);
     let name = format!("{name}, {} accepted blocks", half.accepted);
     measured(&name, || run(model::build_half_sample, &mut half), || run(model::build_from_numbers, &mut whole))
 }

@@ -13,8 +13,10 @@ use crate::motion_comp::{
     stored_luma_mv, whole_pixel_fraction_is_zero,
 };
 use crate::motion_vector::Mv;
-use crate::paper::denoiser::{Built, Chroma, Window};
-use crate::refusals::{Frame, Part, cap, planes};
+#[cfg(model)]
+use crate::paper::denoiser::Window;
+#[cfg(model)]
+use crate::three::{caps_of, pictures};
 use std::cell::RefCell;
 
 thread_local! {
@@ -92,40 +94,16 @@ fn luma(counted: &CountedPicture) -> (&[u8], &[u32], &[u32]) {
     (&counted.picture.y, &sums[..first(sums)], &weights[..first(weights)])
 }
 
-/// What the originals build of an accepted window, or their copies where they lack the rule.
-pub fn by_the_originals(window: &Window, config: &ArnrConfig, chroma: Chroma) -> Built {
-    let caps: Vec<u32> = window.frames.iter().map(cap).collect();
-    let pictures = pictures(window);
-    let got = match chroma {
-        Chroma::Whole => caps::build(&pictures, &caps, window.centre, config),
-        Chroma::Half => build(&pictures, &caps, window.centre, config).map(|(built, _)| built),
-    };
-    let CountedPicture { picture, sums, weights, accepted } = got.expect("an accepted window");
-    Built { output: [picture.y, picture.u, picture.v].concat(), sums, weights, accepted }
-}
-
 /// The displacements of an accepted window's accepted blocks. For the comparison and the benchmark only.
 #[cfg(model)]
 pub fn shifts(window: &Window) -> Vec<(i32, i32)> {
-    let caps: Vec<u32> = window.frames.iter().map(cap).collect();
     let config = ArnrConfig::default().with_strength(window.strength);
-    build(&pictures(window), &caps, window.centre, &config).expect("an accepted window").1
+    build(&pictures(window), &caps_of(window), window.centre, &config).expect("an accepted window").1
 }
 
 /// Whether a component is odd, so that chroma is filtered.
 pub fn is_odd((dx, dy): &(i32, i32)) -> bool {
     dx % 2 != 0 || dy % 2 != 0
-}
-
-fn pictures<'a>(window: &'a Window) -> Vec<I420Frame<'a>> {
-    let part = |p: &Part| &window.bytes[p.start as usize..p.end() as usize];
-    let picture = |f: &Frame| {
-        let [y, u, v] = planes(f);
-        let (y_stride, uv_stride) = (y.stride as usize, u.stride as usize);
-        let [y, u, v] = [part(&y), part(&u), part(&v)];
-        I420Frame { width: f[0], height: f[1], y, u, v, y_stride, uv_stride }
-    };
-    window.frames.iter().map(picture).collect()
 }
 
 #[cfg(test)]

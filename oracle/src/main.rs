@@ -56,6 +56,8 @@ mod search;
 #[cfg(not(sources_absent))]
 mod shares;
 #[cfg(not(sources_absent))]
+mod three;
+#[cfg(not(sources_absent))]
 mod versions;
 
 // What the originals import under `crate::`.

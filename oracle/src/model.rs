@@ -192,6 +192,14 @@ unsafe extern "C" {
         bytes: *const u8, bytes_len: usize, numbers: *const u32, numbers_len: usize, centre: usize, strength: u8,
         output: *mut u8, output_len: usize, sums: *mut u32, sums_len: usize, weights: *mut u32, weights_len: usize,
     ) -> Build;
+    fn vp8model_build_three_planes(
+        bytes: *const u8, bytes_len: usize, numbers: *const u32, numbers_len: usize, centre: usize, strength: u8,
+        output: *mut u8, output_len: usize, sums: *mut u32, sums_len: usize, weights: *mut u32, weights_len: usize,
+    ) -> Build;
+    fn vp8model_build_three_planes_half_sample(
+        bytes: *const u8, bytes_len: usize, numbers: *const u32, numbers_len: usize, centre: usize, strength: u8,
+        output: *mut u8, output_len: usize, sums: *mut u32, sums_len: usize, weights: *mut u32, weights_len: usize,
+    ) -> Build;
     fn vp8model_build_arnr_altref(
         bytes: *const u8, bytes_len: usize, frames: *const Frame, frames_len: usize, centre: usize, strength: u8,
         output: *mut u8, output_len: usize, sums: *mut u32, sums_len: usize, weights: *mut u32, weights_len: usize,
@@ -363,6 +371,32 @@ pub fn build_half_sample(bytes: &[u8], numbers: &[u32], centre: usize, strength:
     // SAFETY: each slice and its length belong together.
     unsafe {
         vp8model_build_half_sample(
+            bytes.as_ptr(), bytes.len(), numbers.as_ptr(), numbers.len(), centre, strength,
+            output.as_mut_ptr(), output.len(), sums.as_mut_ptr(), sums.len(), weights.as_mut_ptr(), weights.len(),
+        )
+    }
+}
+
+#[rustfmt::skip]
+pub fn build_three_planes(bytes: &[u8], numbers: &[u32], centre: usize, strength: u8, lent: Lent) -> Build {
+    let Lent { output, sums, weights } = lent;
+    // SAFETY: each slice and its length belong together.
+    unsafe {
+        vp8model_build_three_planes(
+            bytes.as_ptr(), bytes.len(), numbers.as_ptr(), numbers.len(), centre, strength,
+            output.as_mut_ptr(), output.len(), sums.as_mut_ptr(), sums.len(), weights.as_mut_ptr(), weights.len(),
+        )
+    }
+}
+
+#[rustfmt::skip]
+pub fn build_three_planes_half_sample(
+    bytes: &[u8], numbers: &[u32], centre: usize, strength: u8, lent: Lent,
+) -> Build {
+    let Lent { output, sums, weights } = lent;
+    // SAFETY: each slice and its length belong together.
+    unsafe {
+        vp8model_build_three_planes_half_sample(
             bytes.as_ptr(), bytes.len(), numbers.as_ptr(), numbers.len(), centre, strength,
             output.as_mut_ptr(), output.len(), sums.as_mut_ptr(), sums.len(), weights.as_mut_ptr(), weights.len(),
         )

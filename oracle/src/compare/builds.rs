@@ -1,17 +1,19 @@
 //! Frames as numbers, the builders' checks, and the builders: two forms of the one that moves chroma by whole samples,
-//! and the one that moves it by half samples. Of the latter, and with a lower cap, the answer of the originals' copy is
-//! expected, and the second implementation must give it too.
+//! the one that moves it by half samples, and the one that accepts a block on three planes, with either. Of all but the
+//! first, and with a lower cap, the answer of the originals' copy is expected, and the second implementation must give it
+//! too.
 
 use super::answer::{Answer, Pair, numbers};
 use super::content;
 use super::guarded::Guarded;
 use super::input::{Input, Kind};
-use super::windows::{draw_moving_window, draw_numbers, draw_window};
+use super::windows::{draw_lit_window, draw_moving_window, draw_numbers, draw_window};
 use crate::arnr::ArnrConfig;
-use crate::halves::{by_the_originals, is_odd, shifts};
+use crate::halves::{is_odd, shifts};
 use crate::model;
-use crate::paper::denoiser::{Chroma, Window, build};
+use crate::paper::denoiser::{Choice, Chroma, Window, build};
 use crate::refusals::{self, Build, Frame, MAX_CAP, NUMBERS_PER_FRAME, cap};
+use crate::three::{by_the_originals, by_three};
 
 #[rustfmt::skip]
 const BUILD: &[&str] = &[
@@ -19,7 +21,7 @@ const BUILD: &[&str] = &[
 ];
 
 #[rustfmt::skip]
-pub const KINDS: [Kind; 6] = [
+pub const KINDS: [Kind; 8] = [
     Kind { name: "frame_count", weight: 5, fields: &[], draw: |r| (vec![], draw_numbers(r)), answers: answer_count },
     Kind { name: "frame_at", weight: 10, fields: &["g"], draw: |r| {
                let g = r.pick(&[0, 1, 2, 3, 4, 1 << 32, 1 << 63, u64::MAX, u64::MAX / 8, u64::MAX / 8 + 1]);
@@ -29,10 +31,14 @@ pub const KINDS: [Kind; 6] = [
     Kind { name: "build_from_numbers", weight: 90, fields: BUILD, draw: draw_window, answers: answer_numbers },
     Kind { name: "build_arnr_altref", weight: 90, fields: BUILD, draw: draw_window, answers: answer_records },
     Kind { name: HALF_SAMPLE, weight: 90, fields: BUILD, draw: draw_moving_window, answers: answer_half_sample },
+    Kind { name: THREE_PLANES[0], weight: 90, fields: BUILD, draw: draw_lit_window, answers: answer_three },
+    Kind { name: THREE_PLANES[1], weight: 90, fields: BUILD, draw: draw_lit_window, answers: answer_three_half },
 ];
 
 /// The builder that moves chroma by half samples.
 pub const HALF_SAMPLE: &str = "build_half_sample";
+/// The builder that accepts a block on three planes, with whole samples and with half samples.
+pub const THREE_PLANES: [&str; 2] = ["build_three_planes", "build_three_planes_half_sample"];
 
 fn answer_count(input: &Input) -> Pair {
     let lent = Guarded::holding(&input.list, input.salt);
@@ -119,23 +125,31 @@ impl Slices {
 }
 
 fn answer_numbers(input: &Input) -> Pair {
-    over_numbers(input, model::build_from_numbers, Chroma::Whole)
+    over_numbers(input, model::build_from_numbers, Choice::WHOLE)
 }
 
 fn answer_half_sample(input: &Input) -> Pair {
-    over_numbers(input, model::build_half_sample, Chroma::Half)
+    over_numbers(input, model::build_half_sample, Choice::HALF)
+}
+
+fn answer_three(input: &Input) -> Pair {
+    over_numbers(input, model::build_three_planes, Choice::three(Chroma::Whole))
+}
+
+fn answer_three_half(input: &Input) -> Pair {
+    over_numbers(input, model::build_three_planes_half_sample, Choice::three(Chroma::Half))
 }
 
 type OverNumbers = fn(&[u8], &[u32], usize, u8, model::Lent) -> model::Build;
 
-fn over_numbers(input: &Input, call: OverNumbers, chroma: Chroma) -> Pair {
+fn over_numbers(input: &Input, call: OverNumbers, choice: Choice) -> Pair {
     let bytes = Guarded::holding(&bytes_of(input), input.salt);
     let list = Guarded::holding(&input.list, input.salt ^ 1);
     let mut slices = Slices::of(input);
     let (centre, strength) = (input.size("centre"), input.get("strength") as u8);
     let got = call(bytes.slice(), list.slice(), centre, strength, slices.lent());
     let model = slices.after(said(got)).constant("bytes", &bytes).constant("numbers", &list);
-    Pair { model, expected: built(input, bytes.slice(), chroma) }
+    Pair { model, expected: built(input, bytes.slice(), choice) }
 }
 
 fn answer_records(input: &Input) -> Pair {
@@ -156,7 +170,7 @@ fn answer_records(input: &Input) -> Pair {
     let (centre, strength) = (input.size("centre"), input.get("strength") as u8);
     let got = model::build_arnr_altref(bytes.slice(), frames.slice(), centre, strength, slices.lent());
     let model = slices.after(said(got)).constant("bytes", &bytes).constant("frames", &frames);
-    Pair { model, expected: built(input, bytes.slice(), Chroma::Whole) }
+    Pair { model, expected: built(input, bytes.slice(), Choice::WHOLE) }
 }
 
 /// Whether the share of a frame beside the centre has a cap below 16, of a window whose sums are written.
@@ -171,13 +185,28 @@ pub fn moves_by_half(input: &Input) -> bool {
     shifts(&window(input, &bytes, &frames)).iter().any(is_odd)
 }
 
+/// Of an accepted input of `THREE_PLANES`: the accepted blocks, and those that chroma excludes whose luma passes.
+pub fn accepted_and_excluded(input: &Input) -> (u64, u64) {
+    let (bytes, frames) = (bytes_of(input), input.frames());
+    let window = window(input, &bytes, &frames);
+    let chroma = if input.kind.name == THREE_PLANES[0] { Chroma::Whole } else { Chroma::Half };
+    let config = ArnrConfig::default().with_strength(window.strength);
+    let (built, excluded) = by_three(&window, &config, Choice::three(chroma));
+    (built.accepted, excluded)
+}
+
+/// Whether chroma excludes a block of such an input whose luma passes.
+pub fn chroma_excludes(input: &Input) -> bool {
+    accepted_and_excluded(input).1 > 0
+}
+
 fn window<'a>(input: &Input, bytes: &'a [u8], frames: &'a [Frame]) -> Window<'a> {
     Window { bytes, frames, centre: input.size("centre"), strength: input.get("strength") as u8 }
 }
 
 // What a builder is expected to say and leave: the picture, sums and weights of the original, or of its copy, in the
 // first entries.
-fn built(input: &Input, bytes: &[u8], chroma: Chroma) -> Answer {
+fn built(input: &Input, bytes: &[u8], choice: Choice) -> Answer {
     let frames = input.frames();
     let (refusal, mut wanted) = checked(input, &frames);
     let before = Slices::of(input);
@@ -187,9 +216,9 @@ fn built(input: &Input, bytes: &[u8], chroma: Chroma) -> Answer {
     if refusal == 0 {
         let window = window(input, bytes, &frames);
         let config = ArnrConfig::default().with_strength(window.strength);
-        let got = by_the_originals(&window, &config, chroma);
-        let by_a_copy = chroma == Chroma::Half || frames.iter().any(|frame| cap(frame) < MAX_CAP);
-        if by_a_copy && got != build(&window, chroma) {
+        let got = by_the_originals(&window, &config, choice);
+        let by_a_copy = choice != Choice::WHOLE || frames.iter().any(|frame| cap(frame) < MAX_CAP);
+        if by_a_copy && got != build(&window, choice) {
             faults.push("the second implementation builds otherwise".to_string());
         }
         output[..got.output.len()].copy_from_slice(&got.output);
@@ -198,4 +227,34 @@ fn built(input: &Input, bytes: &[u8], chroma: Chroma) -> Answer {
         wanted[2] = got.accepted as i64;
     }
     Answer { faults, ..Answer::new(refusal, &wanted).holding(&output).holding(&sums).holding(&weights) }
+}
+
+#[cfg(test)]
+mod tests {
+    use super::*;
+    use crate::random::Random;
+
+    // Of the windows that are drawn for three planes and blended: in how many chroma excludes a block whose luma passes, and
+    // in how many of these another is accepted.
+    #[test]
+    fn chroma_decides_in_many_windows() {
+        static CALLS: [Kind; 8] = KINDS;
+        for kind in CALLS.iter().filter(|kind| THREE_PLANES.contains(&kind.name)) {
+            let (mut blended, mut excluding, mut both) = (0, 0, 0);
+            for seed in 0..1500 {
+                let (numbers, list) = (kind.draw)(&mut Random::new(seed));
+                let input = Input { kind, numbers, list, salt: 0 };
+                let frames = input.frames();
+                if checked(&input, &frames).0 > 0 || frames.len() < 2 || input.get("strength") == 0 {
+                    continue;
+                }
+                let (accepted, excluded) = accepted_and_excluded(&input);
+                blended += 1;
+                excluding += u32::from(excluded > 0);
+                both += u32::from(excluded > 0 && accepted > 0);
+            }
+            println!("{}: {blended} blended, {excluding} with an excluded block, {both} with both", kind.name);
+            assert!(2 * excluding > blended && 4 * both > blended);
+        }
+    }
 }

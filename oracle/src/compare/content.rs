@@ -5,7 +5,7 @@ use crate::paper::Plane;
 use crate::random::Random;
 use std::sync::OnceLock;
 
-/// The kinds of `bytes`, but for the slope, and of `macroblock`.
+/// The kinds of `bytes`, but for the last two, and of `macroblock`.
 pub const KINDS: u64 = 10;
 pub const SOURCES: u64 = 5;
 pub const CUT: u64 = 3;
@@ -13,14 +13,16 @@ pub const TEXTURE: u64 = 4;
 pub const STEEP: u64 = 8;
 pub const TILES: u64 = 9;
 pub const SLOPE: u64 = KINDS;
+pub const LIT: u64 = KINDS + 1;
 
 const SIDE: usize = 256;
 
 /// So many bytes, read as rows of `pitch`: flat, a gradient, checkers, levels about the denoiser's cut-off in
 /// chunks of a row each, a smooth texture, the same with noise, noise of few levels, noise. For the searches also a
 /// slope, steep up and down, by rows or by columns, where a candidate is lost after a few rows; and a small tile of
-/// noise again and again, where places a period apart tie. Last one even slope from 0 up to 255, by columns or by rows
-/// as the seed's lowest bit says, or down to 0 where the next one is set.
+/// noise again and again, where places a period apart tie. Then one even slope from 0 up to 255, by columns or by rows
+/// as the seed's lowest bit says, or down to 0 where the next one is set. Last, for packed frames of a row each, one
+/// picture in all of them, with a part of U and V raised or lowered.
 pub fn bytes(kind: u64, seed: u64, len: usize, pitch: usize) -> Vec<u8> {
     let pitch = pitch.clamp(1, len.max(1));
     let mut random = Random::new(seed);
@@ -54,6 +56,7 @@ pub fn bytes(kind: u64, seed: u64, len: usize, pitch: usize) -> Vec<u8> {
             let tile = random.bytes(rows * cols);
             (0..len).map(|i| tile[at(i).0 % rows * cols + at(i).1 % cols]).collect()
         }
+        LIT => lit(len, pitch, seed, &mut random),
         _ => {
             let along = |(row, col): (usize, usize)| if seed & 1 == 1 { row } else { col };
             let turned = |level: u8| if seed & 2 == 2 { 255 - level } else { level };
@@ -71,6 +74,26 @@ fn cut(len: usize, pitch: usize, random: &mut Random) -> Vec<u8> {
         (_, 0) => 112,
         (_, 1) => 113,
         _ => 113 - u8::from(i % pitch == odd),
+    };
+    (0..len).map(level).collect()
+}
+
+// 100 or a texture in the first chunk, and again in the others; a run in the last third of these, where U and V lie, is
+// another by about the denoiser's cut-off, by more, or by nothing.
+fn lit(len: usize, pitch: usize, seed: u64, random: &mut Random) -> Vec<u8> {
+    let flat = random.percent(40);
+    let third = (pitch / 3) as u64 + 1;
+    let run = |random: &mut Random| {
+        let from = pitch - (1 + random.below(third) as usize).min(pitch);
+        let by = random.pick(&[0, 11, 12, 13, 14, 20, 40, -12, -13, -14, -30]);
+        (from..from + 1 + random.below(third) as usize, by)
+    };
+    let runs: Vec<_> = (0..=len / pitch).map(|_| run(random)).collect();
+    let level = |i: usize| {
+        let (chunk, at) = (i / pitch, i % pitch);
+        let base = if flat { 100 } else { texture((at / 32, at % 32), seed) };
+        let lit = chunk > 0 && runs[chunk].0.contains(&at);
+        if lit { base.saturating_add_signed(runs[chunk].1) } else { base }
     };
     (0..len).map(level).collect()
 }

@@ -2,8 +2,8 @@
 //!
 //! Where a call is refused, the expected number and values come from refusals.rs, and every lent slice must
 //! hold what it held; elsewhere the originals' answer decides, with the counts of counts.rs, at a version that of
-//! versions.rs, with a lower cap that of caps.rs, and with half samples that of halves.rs. A whole picture's is that of
-//! their single calls, within an allowance with an account kept beside them.
+//! versions.rs, with a lower cap that of caps.rs, with half samples that of halves.rs, and on three planes that of
+//! three.rs. A whole picture's is that of their single calls, within an allowance with an account kept beside them.
 
 mod allowances;
 mod answer;
@@ -44,7 +44,7 @@ struct Plant {
 }
 
 #[rustfmt::skip]
-static PLANTS: [Plant; 7] = [
+static PLANTS: [Plant; 9] = [
     Plant { word: "--plant", call: "small_diamond_search_luma", when: |i| i.get("width") > 20, place: 2 },
     Plant { word: "--plant-rows", call: "block_sad_16x16_up_to", when: |i| i.get("ceiling") > 20, place: 1 },
     Plant { word: "--plant-version", call: "quarter_pixel_refine_luma", when: |i| i.get("version") > 0, place: 2 },
@@ -52,6 +52,8 @@ static PLANTS: [Plant; 7] = [
     Plant { word: "--plant-count", call: "search_picture_luma_within", when: |i| i.get("allowance") > 60, place: 1 },
     Plant { word: "--plant-cap", call: "build_from_numbers", when: builds::caps_a_share, place: 7 },
     Plant { word: "--plant-half", call: builds::HALF_SAMPLE, when: builds::moves_by_half, place: 7 },
+    Plant { word: "--plant-three", call: builds::THREE_PLANES[0], when: builds::chroma_excludes, place: 7 },
+    Plant { word: "--plant-three-half", call: builds::THREE_PLANES[1], when: builds::chroma_excludes, place: 2 },
 ];
 
 /// Runs the comparison; whether every answer was the same. None where the words are not understood.
@@ -101,7 +103,7 @@ fn kinds() -> Vec<&'static Kind> {
     static NUMBERS: [Kind; 14] = numbers::KINDS;
     static PLANES: [Kind; 12] = planes::KINDS;
     static PICTURES: [Kind; 2] = [allowances::KIND, pictures::KIND];
-    static BUILDS: [Kind; 6] = builds::KINDS;
+    static BUILDS: [Kind; 8] = builds::KINDS;
     std::iter::once(&DEFAULT).chain(&NUMBERS).chain(&PLANES).chain(&PICTURES).chain(&BUILDS).collect()
 }
 
@@ -132,25 +134,41 @@ fn report(run: Run, index: u64, input: Input) {
 }
 
 // Inputs by call: accepted and refused; of the accepted builds those with a lower cap beside the centre; of those with
-// half samples the accepted ones that have an odd displacement, and the refused ones.
+// half samples the accepted ones that have an odd displacement, and the refused ones; of those on three planes, by chroma
+// rule, the accepted ones in which chroma excludes a block whose luma passes, of these the ones with an accepted block, and
+// the refused ones.
 struct Tally {
     kinds: Vec<&'static Kind>,
     counts: Vec<[u64; 2]>,
-    refused: [u64; 31],
+    refused: Refused,
     capped: u64,
     half_moved: u64,
-    half_refused: [u64; 31],
+    half_refused: Refused,
+    three_excluding: [[u64; 2]; 2],
+    three_refused: [Refused; 2],
     done: u64,
     last: Instant,
 }
+
+/// By number.
+type Refused = [u64; 31];
 
 impl Tally {
     fn new() -> Tally {
         let kinds = kinds();
         let counts = vec![[0; 2]; kinds.len()];
-        let none = [0; 31];
-        let (refused, half_refused) = (none, none);
-        Tally { kinds, counts, refused, capped: 0, half_moved: 0, half_refused, done: 0, last: Instant::now() }
+        Tally {
+            kinds,
+            counts,
+            refused: [0; 31],
+            capped: 0,
+            half_moved: 0,
+            half_refused: [0; 31],
+            three_excluding: [[0; 2]; 2],
+            three_refused: [[0; 31]; 2],
+            done: 0,
+            last: Instant::now(),
+        }
     }
 
     fn add(&mut self, input: &Input, pair: &Pair) {
@@ -164,6 +182,12 @@ impl Tally {
             self.half_moved += u64::from(built && builds::moves_by_half(input));
             self.half_refused[refusal] += 1;
         }
+        if let Some(rule) = builds::THREE_PLANES.iter().position(|name| *name == input.kind.name) {
+            let (accepted, excluded) = if built { builds::accepted_and_excluded(input) } else { (0, 0) };
+            self.three_excluding[rule][0] += u64::from(excluded > 0);
+            self.three_excluding[rule][1] += u64::from(excluded > 0 && accepted > 0);
+            self.three_refused[rule][refusal] += 1;
+        }
         self.done += 1;
         if self.last.elapsed() >= Duration::from_secs(1) {
             self.last = Instant::now();
@@ -175,17 +199,23 @@ impl Tally {
 
     fn print(&self) {
         for (kind, [accepted, refused]) in self.kinds.iter().zip(&self.counts) {
-            println!("  {:<28} {accepted:>7} accepted {refused:>7} refused", kind.name);
+            println!("  {:<30} {accepted:>7} accepted {refused:>7} refused", kind.name);
         }
         let numbers = (1..16).chain([23, 29, 30]);
         println!("  refusals by number: {}", by_number(numbers, &self.refused));
         println!("  accepted builds in which another frame's cap is below 16: {}", self.capped);
-        let numbers = [1, 2, 3, 4, 29, 5, 6, 7].into_iter();
-        println!("  {}, refusals by number: {}", builds::HALF_SAMPLE, by_number(numbers, &self.half_refused));
+        let numbers = || [1, 2, 3, 4, 29, 5, 6, 7].into_iter();
+        println!("  {}, refusals by number: {}", builds::HALF_SAMPLE, by_number(numbers(), &self.half_refused));
         println!("  {}, accepted with an odd displacement: {}", builds::HALF_SAMPLE, self.half_moved);
+        for (rule, name) in builds::THREE_PLANES.iter().enumerate() {
+            let [excluding, both] = self.three_excluding[rule];
+            println!("  {name}, refusals by number: {}", by_number(numbers(), &self.three_refused[rule]));
+            println!("  {name}, accepted where chroma excludes a block whose luma passes: {excluding},");
+            println!("    of these with an accepted block: {both}");
+        }
     }
 }
 
-fn by_number(numbers: impl Iterator<Item = usize>, counts: &[u64; 31]) -> String {
+fn by_number(numbers: impl Iterator<Item = usize>, counts: &Refused) -> String {
     numbers.map(|number| format!("{number}: {}", counts[number])).collect::<Vec<String>>().join(", ")
 }

@@ -17,20 +17,32 @@ pub fn draw_numbers(random: &mut Random) -> Vec<u32> {
 
 /// The numbers in the order of the builders' fields, and the frames.
 pub fn draw_window(random: &mut Random) -> Drawn {
-    draw(random, &[1, 3, 9, 17])
+    draw(random, &Drawing { reaches: &[1, 3, 9, 17], lit: false })
 }
 
 /// The same with frames that are moved less far, so that the block search finds more of them.
 pub fn draw_moving_window(random: &mut Random) -> Drawn {
-    draw(random, &[2, 3, 4, 5])
+    draw(random, &MOVING)
 }
 
-// Frames that are parts of one picture are moved by less than one of these reaches.
-fn draw(random: &mut Random, reaches: &[u64]) -> Drawn {
+/// The same where U or V of many frames is another than the centre's while Y is alike.
+pub fn draw_lit_window(random: &mut Random) -> Drawn {
+    draw(random, &Drawing { lit: true, ..MOVING })
+}
+
+/// Frames that are parts of one picture are moved by less than one of these reaches; whether chroma is made another.
+struct Drawing {
+    reaches: &'static [u64],
+    lit: bool,
+}
+
+const MOVING: Drawing = Drawing { reaches: &[2, 3, 4, 5], lit: false };
+
+fn draw(random: &mut Random, drawing: &Drawing) -> Drawn {
     let many = random.below(400) == 0;
     let size = if many { (1 + random.below(4) as u32, 1 + random.below(4) as u32) } else { draw_size(random) };
     let count = if many { random.pick(&[1024, 1025]) } else { draw_count(random) };
-    let (content, pitch, mut frames) = draw_frames(random, size, count, reaches);
+    let (content, pitch, mut frames) = draw_frames(random, size, count, drawing);
     let count = frames.len() as u64;
     if random.percent(20) && count > 1 {
         let (from, to) = (random.below(count) as usize, random.below(count) as usize);
@@ -95,7 +107,7 @@ fn draw_frames(
     random: &mut Random,
     (width, height): (u32, u32),
     count: u64,
-    reaches: &[u64],
+    drawing: &Drawing,
 ) -> (u64, u32, Vec<Frame>) {
     let any = random.below(content::KINDS);
     if width > 200 || height > 200 || width == 0 || height == 0 {
@@ -108,8 +120,11 @@ fn draw_frames(
     match random.below(100) {
         0..45 => {
             let pitch = width + 64;
-            let reach = random.pick(reaches);
-            let frames = (0..count).map(|_| moved(random, (width, height), pitch, reach)).collect();
+            let reach = random.pick(drawing.reaches);
+            let mut frames: Vec<Frame> = (0..count).map(|_| moved(random, (width, height), pitch, reach)).collect();
+            if drawing.lit {
+                frames.iter_mut().for_each(|frame| set_apart(random, frame));
+            }
             let textured = content::TEXTURE + random.below(2);
             (random.pick(&[textured, textured, textured, content::STEEP, content::TILES]), pitch, frames)
         }
@@ -122,6 +137,7 @@ fn draw_frames(
                 [width, height, y, u, u + columns * rows, width, columns, MAX_CAP]
             };
             let content = random.pick(&[content::CUT, content::CUT, 6, 6, any]);
+            let content = if drawing.lit && random.percent(70) { content::LIT } else { content };
             (content, samples, (0..count as u32).map(frame).collect())
         }
         _ => {
@@ -142,6 +158,18 @@ fn moved(random: &mut Random, (width, height): (u32, u32), pitch: u32, reach: u6
     let rows = height.div_ceil(2);
     let below = |row: u32| (row + y / 2) * pitch + x / 2;
     [width, height, y * pitch + x, below(height + 40), below(height + 40 + rows + 30), pitch, pitch, MAX_CAP]
+}
+
+// U, V or both a few samples from where they lie, in two of three frames.
+fn set_apart(random: &mut Random, frame: &mut Frame) {
+    let mut away = || (random.below(4) * u64::from(frame[6]) + random.below(5)) as u32;
+    let by = [away(), away()];
+    match random.below(6) {
+        0 => frame[3] += by[0],
+        1 => frame[4] += by[1],
+        2 | 3 => (frame[3], frame[4]) = (frame[3] + by[0], frame[4] + by[1]),
+        _ => {}
+    }
 }
 
 /// Caps that are drawn more often than others.

@@ -148,7 +148,7 @@ fn add_many_frames(writer: &mut Writer) {
 mod tests {
     use super::*;
     use crate::denoiser::pictures;
-    use crate::paper::denoiser::{Built, Chroma, Window, build};
+    use crate::paper::denoiser::{Built, Choice, Window, build};
 
     // At each strength the total weights of luma and of U are others at the next cap. In V few samples are equal.
     #[test]
@@ -159,7 +159,7 @@ mod tests {
         {
             let built: [Built; 7] = LEVELS.map(|cap| {
                 let window = Window { bytes: &bytes, frames: &three(centre, cap), centre, strength };
-                build(&window, Chroma::Whole)
+                build(&window, Choice::WHOLE)
             });
             let planes = [0..180, 180..225];
             for (k, plane) in (1..7).flat_map(|k| planes.iter().map(move |plane| (k, plane.clone()))) {

@@ -1,12 +1,13 @@
 //! Windows for the builder that moves chroma by half samples.
 
 use super::pictures::{
-    CHROMA_STRIDE, LEN_OF_ALL, SMALLEST, bowl, capped, flat, flat_chroma, frame, harsh_chroma, mirror, noise, smallest,
-    smooth_chroma, texture,
+    CHROMA_STRIDE, LEN_WITH_HALVES, SMALLEST, bowl, capped, flat, flat_chroma, frame, harsh_chroma, mirror, noise,
+    smallest, smooth_chroma, texture,
 };
+use super::refused::each_and_the_next;
 use super::windows::{STRENGTHS, picture};
 use super::{Case, Frame, HALF_SAMPLES, Writer};
-use crate::paper::denoiser::{Chroma, Window, build};
+use crate::paper::denoiser::{Choice, Window, build};
 use crate::random::Random;
 
 /// A displacement: columns, then rows.
@@ -49,21 +50,21 @@ pub fn cases(bytes: &[u8]) -> Vec<Case> {
         as_whole_samples(),
         cropped(),
         many_frames(),
-        refused(),
+        each_and_the_next(HALF_SAMPLES, LEN_WITH_HALVES),
     ];
     groups.concat()
 }
 
 // Over all picture bytes.
 fn case(frames: &[Frame], centre: usize, strength: u8) -> Case {
-    Case { bytes: LEN_OF_ALL, ..Case::new(HALF_SAMPLES, frames, centre as u64, strength) }
+    Case::new(HALF_SAMPLES, frames, centre as u64, strength).over(LEN_WITH_HALVES)
 }
 
 // Whether an accepted case is answered otherwise than with whole samples.
 fn is_felt(bytes: &[u8], case: &Case) -> bool {
     let (frames, centre) = (case.frames(), case.centre as usize);
     let window = Window { bytes: &bytes[..case.bytes], frames: &frames, centre, strength: case.strength };
-    build(&window, Chroma::Half) != build(&window, Chroma::Whole)
+    build(&window, Choice::HALF) != build(&window, Choice::WHOLE)
 }
 
 // The first of some windows that is felt; where none is, the first.
@@ -255,42 +256,12 @@ fn many_frames() -> Vec<Case> {
     [(0, 1024 * 8), (1023, 1025 * 8 - 1)].map(of).to_vec()
 }
 
-// Each refusal alone, in its order, and each together with the next one.
-fn refused() -> Vec<Case> {
-    let order = [1, 2, 3, 4, 29, 5, 6, 7];
-    let alone = order.iter().map(|&number| with_refusals(&[number]));
-    let together = order.windows(2).map(with_refusals);
-    alone.chain(together).collect()
-}
-
-// A window of 5 by 4 that is refused for these reasons.
-fn with_refusals(numbers: &[u32]) -> Case {
-    let is = |number: u32| numbers.contains(&number);
-    let size = if is(3) { (5, 16384) } else { (5, 4) };
-    let mut frames: Vec<Frame> = (0..3).map(|g| texture((5, 4), (g, 1), g == 1)).collect();
-    frames.iter_mut().for_each(|frame| (frame[0], frame[1]) = size);
-    if is(4) {
-        frames[2][0] = 6;
-    }
-    if is(29) {
-        frames[1] = capped(frames[1], 17);
-    }
-    if is(5) {
-        frames[0][4] = LEN_OF_ALL as u32;
-    }
-    let given = if is(2) { 1025 * 8 } else { 3 * 8 };
-    let centre = if is(1) { given as u64 / 8 } else { 1 };
-    let lent = [if is(6) { 31 } else { 32 }, 32, if is(7) { 31 } else { 32 }];
-    Case { given, lent, ..case(&frames, 1, 3) }.at(centre)
-}
-
 #[cfg(test)]
 mod tests {
     use super::*;
     use crate::denoiser::pictures;
     use crate::paper::denoiser::{Block, Pair, block_search};
     use crate::paper::search::sad;
-    use crate::refusals::{Build, of_build};
 
     // The displacement of a block from each other frame, of which its SAD is 0.
     fn shifts(bytes: &[u8], case: &Case, block: usize) -> Vec<Pair> {
@@ -316,17 +287,6 @@ mod tests {
             let told = far.shifts.iter().map(|&(dx, dy)| (dx.into(), dy.into()));
             assert_eq!(shifts(&bytes, case, 2 * columns + 2), told.collect::<Vec<Pair>>());
         }
-    }
-
-    #[test]
-    fn each_refusal_comes_by_itself_and_before_the_next() {
-        let number = |case: &Case| {
-            let (frames, [output, sums, weights]) = (case.frames(), case.lent.map(|n| n as u64));
-            let bytes = case.bytes as u64;
-            of_build(Build { bytes, frames: &frames, centre: case.centre, output, sums, weights }).0
-        };
-        let numbers: Vec<u64> = refused().iter().map(number).collect();
-        assert_eq!(numbers, [1, 2, 3, 4, 29, 5, 6, 7, 1, 2, 3, 4, 29, 5, 6]);
     }
 
     #[test]

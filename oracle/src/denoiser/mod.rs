@@ -4,7 +4,7 @@
 //! `pictures` is laid out in pictures.rs; the picture bytes of a case are its first ones. `cases` is a file of
 //! records of 18 numbers (see records.rs). Counted from 0:
 //!
-//! kinds 1 to 5, 7 and 8, the builders, by what the case is for (see `KINDS`): [1] refusal or 0, [2] length of the
+//! kinds 1 to 5 and 7 to 10, the builders, by what the case is for (see `KINDS`): [1] refusal or 0, [2] length of the
 //!     picture bytes, [3] numbers stored, [4] numbers given, which are the stored ones again and again, [5] centre,
 //!     [6] strength, [7] how the configuration is made, [8] length of the output, [9] of the sums, [10] of the
 //!     weights, [11] bytes written to the output, [12] entries written to the sums and to the weights,
@@ -13,8 +13,9 @@
 //!     the weights, three bytes each; numbers have the least byte first
 //! kind 6, ArnrConfig: [1] the strength stored, [6] the strength given, [7] how the configuration is made
 //!
-//! A frame is eight numbers; its cap is 16 in all cases but those of kind 7, some of kind 8 and those of refusal 29.
-//! Kind 8 is the builder that moves chroma by half samples, over numbers; the others run in both forms.
+//! A frame is eight numbers; its cap is 16 in all cases but those of kind 7, some of kinds 8 to 10 and those of refusal
+//! 29. Kind 8 is the builder that moves chroma by half samples, kind 9 the one that accepts a block on three planes, kind
+//! 10 that one with half samples. All run over numbers and over records.
 //! A configuration is made 0 by with_strength on the default one, 1 by new, 2 by default.
 //! What a call does not write, the replay expects to find as it was.
 
@@ -22,6 +23,7 @@ mod capped;
 mod halved;
 mod pictures;
 mod refused;
+mod three;
 mod windows;
 #[cfg(test)]
 mod wrong;
@@ -29,21 +31,33 @@ mod wrong;
 use crate::arnr::ArnrConfig;
 use crate::counts;
 use crate::encoder::{EncodeError, I420Frame};
-use crate::halves::by_the_originals;
-use crate::paper::denoiser::{Built, Chroma, Window, build};
+use crate::paper::denoiser::{Built, Choice, Chroma, Window, build};
 use crate::records::Records;
 use crate::refusals::{self, Build, Frame, NUMBERS_PER_FRAME, packed_size};
+use crate::three::{by_the_originals, by_three};
 use std::path::Path;
 
 /// What the cases of each kind are for, from 1 on, in the order in which the replay prints them.
-const KINDS: [&str; 8] =
-    ["no frames", "one frame", "strength 0", "windows", "refusals", "configurations", "caps", "half samples"];
+const KINDS: [&str; 10] = [
+    "no frames",
+    "one frame",
+    "strength 0",
+    "windows",
+    "refusals",
+    "configurations",
+    "caps",
+    "half samples",
+    "three planes",
+    "three planes, half samples",
+];
 const CONFIGURATIONS: u64 = 6;
 const CAPS: u64 = 7;
 const HALF_SAMPLES: u64 = 8;
+const THREE_PLANES: u64 = 9;
+const THREE_PLANES_HALF: u64 = 10;
 
 /// What the replay has room for: picture bytes, entries of each lent slice, numbers, and bytes of a payload.
-const MOST_BYTES: usize = 65536;
+const MOST_BYTES: usize = 98304;
 const MOST_LENT: usize = 40000;
 const MOST_NUMBERS: usize = 8300;
 const MOST_PAYLOAD: usize = 240000;
@@ -65,20 +79,31 @@ struct Writer<'a> {
     records: Records,
     /// Of the kind with half samples: refused, and accepted with another answer than with whole samples.
     halves: [u64; 2],
+    /// Of the kinds on three planes: refused, accepted, of these with a block that chroma alone excludes, and of these
+    /// with an accepted block too.
+    three: [[u64; 4]; 2],
 }
 
 /// Writes data/pictures, data/cases and stdout, which is what a replay prints where nothing differs.
 pub fn write(folder: &Path) -> std::io::Result<()> {
     let pictures = pictures::all();
     assert!(pictures.len() <= MOST_BYTES);
-    let mut writer = Writer { pictures: &pictures, records: Records::new(18), halves: [0; 2] };
+    let mut writer = Writer { pictures: &pictures, records: Records::new(18), halves: [0; 2], three: [[0; 4]; 2] };
     windows::add(&mut writer);
     capped::add(&mut writer);
     refused::add(&mut writer);
     add_configurations(&mut writer.records);
     halved::add(&mut writer);
+    three::add(&mut writer);
     let (cases, [refused, differing]) = (writer.records.of_kind(HALF_SAMPLES), writer.halves);
     println!("half samples: {cases} cases, {refused} refused, {differing} answered otherwise than with whole samples");
+    for (kind, [refused, built, excluding, both]) in [THREE_PLANES, THREE_PLANES_HALF].into_iter().zip(writer.three) {
+        let (name, cases) = (KINDS[kind as usize - 1], writer.records.of_kind(kind));
+        println!(
+            "{name}: {cases} cases, {refused} refused, {built} built, in {excluding} of these chroma alone excludes"
+        );
+        println!("  a block, in {both} of these another is accepted");
+    }
     std::fs::create_dir_all(folder.join("data"))?;
     std::fs::write(folder.join("data/pictures"), &pictures)?;
     std::fs::write(folder.join("stdout"), printed(&writer.records))?;
@@ -90,7 +115,7 @@ fn printed(records: &Records) -> String {
     let cases: Vec<u64> = (1..).take(KINDS.len()).map(|kind| records.of_kind(kind)).collect();
     let kinds: String = KINDS.iter().zip(&cases).map(|(name, &cases)| line(name, cases) + "\n").collect();
     let all: u64 = cases.iter().sum();
-    let builds = all - records.of_kind(CONFIGURATIONS) - records.of_kind(HALF_SAMPLES);
+    let builds = all - records.of_kind(CONFIGURATIONS);
     let both = format!("; {builds} builds were run in both forms, over numbers and over records\n");
     kinds + &line("all", all) + &both
 }
@@ -131,8 +156,18 @@ impl Case {
         Case { lent, ..self }
     }
 
-    fn chroma(&self) -> Chroma {
-        if self.kind == HALF_SAMPLES { Chroma::Half } else { Chroma::Whole }
+    // The same over other picture bytes, the first ones of so many.
+    fn over(self, bytes: usize) -> Case {
+        Case { bytes, ..self }
+    }
+
+    fn choice(&self) -> Choice {
+        match self.kind {
+            HALF_SAMPLES => Choice::HALF,
+            THREE_PLANES => Choice::three(Chroma::Whole),
+            THREE_PLANES_HALF => Choice::three(Chroma::Half),
+            _ => Choice::WHOLE,
+        }
     }
 
     fn numbers(&self) -> Vec<u32> {
@@ -156,6 +191,9 @@ impl Writer<'_> {
             (built, values)
         } else {
             self.halves[0] += u64::from(case.kind == HALF_SAMPLES);
+            if case.choice().three_planes {
+                self.three[(case.kind - THREE_PLANES) as usize][0] += 1;
+            }
             (Built::default(), values)
         };
         let payload = [
@@ -195,21 +233,26 @@ impl Writer<'_> {
         found
     }
 
-    // What an accepted build leaves, from the original, or from a copy of it with a lower cap and with half samples,
-    // held against document 01's rules with those of requests 6 and 7.
+    // What an accepted build leaves, from the original, or from a copy of it with a lower cap, with half samples and on
+    // three planes, held against document 01's rules with those of requests 6, 7 and 9.
     fn built(&mut self, case: &Case, frames: &[Frame]) -> Built {
         let config = configuration(case.made, case.strength);
         let (bytes, centre) = (&self.pictures[..case.bytes], case.centre as usize);
         let window = Window { bytes, frames, centre, strength: config.strength };
-        let got = by_the_originals(&window, &config, case.chroma());
+        let (got, excluded) = by_three(&window, &config, case.choice());
         assert!(
-            got == build(&window, case.chroma()),
+            got == build(&window, case.choice()),
             "a window of {} frames, centre {:?}",
             frames.len(),
             frames[centre]
         );
         if case.kind == HALF_SAMPLES {
-            self.halves[1] += u64::from(got != by_the_originals(&window, &config, Chroma::Whole));
+            self.halves[1] += u64::from(got != by_the_originals(&window, &config, Choice::WHOLE));
+        }
+        if case.choice().three_planes {
+            let felt = [true, excluded > 0, excluded > 0 && got.accepted > 0];
+            let counts = &mut self.three[(case.kind - THREE_PLANES) as usize];
+            counts[1..].iter_mut().zip(felt).for_each(|(count, felt)| *count += u64::from(felt));
         }
         got
     }

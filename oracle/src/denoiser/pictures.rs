@@ -22,7 +22,7 @@ const MIRRORS: usize = FLATS + 6 * 1100;
 /// For each of `CUT_SIZES`, and for the first sample and the middle one: 113 but for that sample of 112.
 const CUTS: usize = MIRRORS + 4 * 1089;
 pub const CUT_SIZES: [(u32, u32); 8] = [(16, 16), (1, 1), (2, 2), (15, 16), (16, 15), (1, 16), (16, 1), (7, 9)];
-/// What all cases but those of half samples are handed.
+/// What all cases but those of half samples and of three planes are handed.
 pub const LEN: usize = CUTS + 2 * 8 * 256;
 /// 64 by 63, deepest between its samples (38, 38) and (39, 39).
 const BOWL: usize = LEN;
@@ -31,7 +31,25 @@ const HARSH: usize = BOWL + 64 * 63;
 /// For each of `SMALLEST` its centre and the other frame, both packed.
 const SMALL: usize = HARSH + 1600;
 /// What those of half samples are handed.
-pub const LEN_OF_ALL: usize = SMALL + 2 * (3 + 7 + 7 + 7 + 10 + 11 + 17);
+pub const LEN_WITH_HALVES: usize = SMALL + 2 * (3 + 7 + 7 + 7 + 10 + 11 + 17);
+/// Six runs of 577: of 113 with 112, 113 or 114 in the middle, and of 87 with 88, 87 or 86. Beside 100 a plane that holds
+/// the middle differs by 13 times its area less 1, by that, or by 1 more.
+const EDGES: usize = LEN_WITH_HALVES;
+const EDGE_RUN: usize = 577;
+/// For each of `CUT_SIDES`, as columns and as rows, a plane of three rows, or columns, for each of the same three
+/// differences from 100: none in the first eight of the other side, and that in those that follow.
+const SECONDS: usize = EDGES + 6 * EDGE_RUN;
+pub const CUT_SIDES: [u32; 5] = [1, 2, 3, 8, 15];
+/// 100 and 140 in turn, then 22 rows of 20 so, then 440 of their mean.
+const STRIPES: usize = SECONDS + 30 * 48;
+const STRIPED_ROWS: usize = STRIPES + 400;
+const MEANS: usize = STRIPED_ROWS + 440;
+/// 36 by 36 of the texture about the places where U and then V begin: as it is, 12 more, 13 more, and 40 more in every
+/// other square of 8 by 8.
+const RAISED: usize = MEANS + 440;
+const RAISED_SIDE: usize = 36;
+/// What those of three planes are handed.
+pub const LEN_OF_ALL: usize = RAISED + 8 * RAISED_SIDE * RAISED_SIDE;
 
 /// A picture and another frame, packed.
 pub struct Small {
@@ -100,7 +118,37 @@ pub fn all() -> Vec<u8> {
     let mut random = Random::new(24);
     bytes.extend((0..1600).map(|_| if random.below(2) == 0 { 0 } else { 255 }));
     bytes.extend(SMALLEST.iter().flat_map(|small| [small.centre, small.other]).flatten());
+    assert_eq!(bytes.len(), LEN_WITH_HALVES);
+    bytes.extend(of_three_planes(&texture));
     assert_eq!(bytes.len(), LEN_OF_ALL);
+    bytes
+}
+
+// From `EDGES` on.
+fn of_three_planes(texture: &[u8]) -> Vec<u8> {
+    let mut bytes = Vec::new();
+    for (level, odd) in [(113, 112), (113, 113), (113, 114), (87, 88), (87, 87), (87, 86)] {
+        bytes.extend((0..EDGE_RUN).map(|i| if i == EDGE_RUN / 2 { odd } else { level }));
+    }
+    for (i, odd) in (0..30).map(|i| (i, 112 + (i % 3) as u8)) {
+        let cut = CUT_SIDES[i / 6].div_ceil(2) as usize;
+        let (columns, rows) = if i / 3 % 2 == 0 { (8 + cut, 3) } else { (3, 8 + cut) };
+        let last = columns * rows - 1 - i % 2;
+        let along = |at: usize| if rows == 3 { at % columns } else { at / columns };
+        let level = |at: usize| if at == last { odd } else { 113 };
+        bytes.extend((0..48).map(|at| if along(at) < 8 { 100 } else { level(at) }));
+    }
+    let striped = |i: usize| if i.is_multiple_of(2) { 100 } else { 140 };
+    bytes.extend((0..400).map(striped));
+    bytes.extend((0..440).map(|i| striped(i / 20)));
+    bytes.extend([120; 440]);
+    let odd_square = |r: usize, c: usize| ((r + 7) / 8 + (c + 7) / 8) % 2 == 1;
+    for ((x, y), variant) in CHROMA_PLACES.into_iter().flat_map(|place| (0..4).map(move |variant| (place, variant))) {
+        for (r, c) in (0..RAISED_SIDE * RAISED_SIDE).map(|i| (i / RAISED_SIDE, i % RAISED_SIDE)) {
+            let more = [0, 12, 13, if odd_square(r, c) { 40 } else { 0 }][variant];
+            bytes.push(texture[(y - RAISED_MARGIN + r) * 160 + x - RAISED_MARGIN + c].saturating_add(more));
+        }
+    }
     bytes
 }
 
@@ -142,12 +190,15 @@ pub fn capped(frame: Frame, cap: u32) -> Frame {
     [width, height, y, u, v, luma_stride, chroma_stride, cap]
 }
 
+/// Where U and V begin in the texture.
+const CHROMA_PLACES: [(usize, usize); 2] = [(20, 50), (90, 20)];
+
 /// The texture from (40 + x, 30 + y) on; U from (20, 50) and V from (90, 20), both moved by half.
 pub fn texture(size: (u32, u32), (x, y): (i32, i32), shaken: bool) -> Frame {
     let base = if shaken { SHAKEN } else { TEXTURE } as i32;
     let at = |x: i32, y: i32| (base + y * 160 + x) as usize;
-    let starts = [at(40 + x, 30 + y), at(20 + x / 2, 50 + y / 2), at(90 + x / 2, 20 + y / 2)];
-    frame(size, starts, (160, 160))
+    let [u, v] = CHROMA_PLACES.map(|(left, top)| at(left as i32 + x / 2, top as i32 + y / 2));
+    frame(size, [at(40 + x, 30 + y), u, v], (160, 160))
 }
 
 /// Noise, packed: of few levels where the index is odd.
@@ -223,4 +274,42 @@ pub fn smallest(index: usize) -> [Frame; 2] {
     let chroma = columns * size.1.div_ceil(2) as usize;
     let packed = |at: usize| frame(size, [at, at + luma, at + luma + chroma], (size.0 as usize, columns));
     [packed(at), packed(at + centre.len())]
+}
+
+/// What lies about a picture's chroma in `RAISED`.
+const RAISED_MARGIN: usize = 9;
+
+/// The same with chroma of the first to the last variant of `RAISED`, for a picture of at most 34 by 34 that is moved by
+/// at most 15. Where it is not moved its blocks are the squares.
+pub fn raised(size: (u32, u32), (x, y): (i32, i32), variants: [usize; 2]) -> Frame {
+    let [_, _, luma, ..] = texture(size, (x, y), false);
+    let at = |half: i32| (RAISED_MARGIN as i32 + half) as usize;
+    let start = |plane: usize| RAISED + (4 * plane + variants[plane]) * RAISED_SIDE * RAISED_SIDE;
+    let [u, v] = [0, 1].map(|plane| start(plane) + at(y / 2) * RAISED_SIDE + at(x / 2));
+    frame(size, [luma as usize, u, v], (160, RAISED_SIDE))
+}
+
+/// A packed plane of at most 289 samples that differs from 100 by 13 at every place but one, and there by so much more;
+/// the samples lie above 100, or below.
+pub fn edge(more: i32, below: bool, place: usize) -> usize {
+    let run = 3 * usize::from(below) + (more + 1) as usize;
+    EDGES + EDGE_RUN * run + EDGE_RUN / 2 - place
+}
+
+/// The size of a picture whose second block is cut to one of `CUT_SIDES`, as columns or as rows, and where a packed plane
+/// begins that differs from 100 in that block alone.
+pub fn second(index: usize, as_rows: bool, more: i32) -> ((u32, u32), usize) {
+    let long = 16 + CUT_SIDES[index];
+    let slot = (2 * index + usize::from(as_rows)) * 3 + (more + 1) as usize;
+    (if as_rows { (5, long) } else { (long, 5) }, SECONDS + 48 * slot)
+}
+
+/// Stripes of one column, of an even stride, or of one row, of a stride of 20; the second ones begin with 140.
+pub fn stripes(as_rows: bool, second: bool) -> usize {
+    if as_rows { STRIPED_ROWS + 20 * usize::from(second) } else { STRIPES + usize::from(second) }
+}
+
+/// The mean of the stripes, for a plane of at most 440 bytes.
+pub fn mean_of_stripes() -> usize {
+    MEANS
 }

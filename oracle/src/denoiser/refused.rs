@@ -218,3 +218,49 @@ fn add_together(writer: &mut Writer) {
         writer.put(&Case { given, lent, ..case(&frames, centre, (bits % 128) as u8 % 3) });
     }
 }
+
+/// For a builder beside the first: each refusal alone, in its order, and each together with the next one.
+pub fn each_and_the_next(kind: u64, bytes: usize) -> Vec<Case> {
+    let order = [1, 2, 3, 4, 29, 5, 6, 7];
+    let alone = order.iter().map(|&number| with_refusals(&[number], bytes));
+    let together = order.windows(2).map(|numbers| with_refusals(numbers, bytes));
+    alone.chain(together).map(|case| Case { kind, ..case }.over(bytes)).collect()
+}
+
+// A window of 5 by 4 that is refused for these reasons, over so many bytes.
+fn with_refusals(numbers: &[u32], bytes: usize) -> Case {
+    let is = |number: u32| numbers.contains(&number);
+    let size = if is(3) { (5, 16384) } else { (5, 4) };
+    let mut frames: Vec<Frame> = (0..3).map(|g| texture((5, 4), (g, 1), g == 1)).collect();
+    frames.iter_mut().for_each(|frame| (frame[0], frame[1]) = size);
+    if is(4) {
+        frames[2][0] = 6;
+    }
+    if is(29) {
+        frames[1] = capped(frames[1], 17);
+    }
+    if is(5) {
+        frames[0][4] = bytes as u32;
+    }
+    let given = if is(2) { 1025 * 8 } else { 3 * 8 };
+    let centre = if is(1) { given as u64 / 8 } else { 1 };
+    let lent = [if is(6) { 31 } else { 32 }, 32, if is(7) { 31 } else { 32 }];
+    Case { given, lent, ..case(&frames, centre, 3) }
+}
+
+#[cfg(test)]
+mod tests {
+    use super::*;
+    use crate::refusals::{Build, of_build};
+
+    #[test]
+    fn each_refusal_comes_by_itself_and_before_the_next() {
+        let number = |case: &Case| {
+            let (frames, [output, sums, weights]) = (case.frames(), case.lent.map(|n| n as u64));
+            let bytes = case.bytes as u64;
+            of_build(Build { bytes, frames: &frames, centre: case.centre, output, sums, weights }).0
+        };
+        let numbers: Vec<u64> = each_and_the_next(8, LEN).iter().map(number).collect();
+        assert_eq!(numbers, [1, 2, 3, 4, 29, 5, 6, 7, 1, 2, 3, 4, 29, 5, 6]);
+    }
+}

@@ -1,5 +1,5 @@
-//! Document 01's rules for the denoiser with request 7's caps and request 6's half samples, sample by sample: no early
-//! exit, no in-bounds path, no running sums.
+//! Document 01's rules for the denoiser with request 7's caps, request 6's half samples and request 9's acceptance by
+//! plane, sample by sample: no early exit, no in-bounds path, no running sums.
 
 use super::search::{NO_CEILING, sad};
 use super::{Plane, filtered};
@@ -20,8 +20,35 @@ pub enum Chroma {
     Half,
 }
 
+/// What a builder call chooses: how U and V are displaced, and whether a block has to pass in all three planes, as
+/// request 9 has it, or in Y alone.
+#[derive(Debug, Clone, Copy, PartialEq, Eq)]
+pub struct Choice {
+    pub chroma: Chroma,
+    pub three_planes: bool,
+}
+
+impl Choice {
+    pub const WHOLE: Choice = Choice { chroma: Chroma::Whole, three_planes: false };
+    pub const HALF: Choice = Choice { chroma: Chroma::Half, three_planes: false };
+
+    /// The builder with this chroma rule that looks at three planes.
+    pub const fn three(chroma: Chroma) -> Choice {
+        Choice { chroma, three_planes: true }
+    }
+
+    /// The builder with the same chroma rule that looks at luma alone.
+    pub const fn luma_alone(self) -> Choice {
+        Choice { three_planes: false, ..self }
+    }
+}
+
 /// A place in a plane, or a displacement: columns, then rows.
 pub type Pair = (i64, i64);
+
+/// The displaced sample of plane k of a frame's three, at a place, from the displacement of the luma block that covers
+/// the place.
+pub type Displaced = fn(&[Plane; 3], usize, Pair, Pair) -> u8;
 
 /// What a build leaves; the sums and total weights are empty where the centre is only cropped.
 #[derive(Debug, Default, PartialEq, Eq)]
@@ -32,10 +59,10 @@ pub struct Built {
     pub accepted: u64,
 }
 
-// What the search found for one block of one frame.
-struct Match {
-    shift: Pair,
-    accepted: bool,
+/// Of one block of one frame: the displacement that the search found, and whether it is accepted.
+pub struct Match {
+    pub shift: Pair,
+    pub accepted: bool,
 }
 
 /// 16s divided by (s + e times e), rounded down; s is 8 times 2 to the strength, 7 to 255 read as 6.
@@ -44,22 +71,23 @@ pub fn weight(strength: u8, e: u8) -> u32 {
     16 * s / (s + u32::from(e) * u32::from(e))
 }
 
-pub fn build(w: &Window, chroma: Chroma) -> Built {
-    match chroma {
-        Chroma::Whole => build_by(w, whole_samples),
-        Chroma::Half => build_by(w, half_samples),
-    }
+pub fn build(w: &Window, choice: Choice) -> Built {
+    build_by(w, sample_of(choice.chroma), |g, block| w.matched(g, block, choice))
 }
 
-/// The same over any rule for the displaced sample: that of plane k of a frame's three, at a place, from the
-/// displacement of the luma block that covers the place.
-pub fn build_by(w: &Window, displaced: impl Fn(&[Plane; 3], usize, Pair, Pair) -> u8) -> Built {
+/// The same over any rule for the displaced sample and any for what is found of a frame's block.
+pub fn build_by(
+    w: &Window,
+    displaced: impl Fn(&[Plane; 3], usize, Pair, Pair) -> u8,
+    found: impl Fn(usize, &Block) -> Match,
+) -> Built {
     let [width, height] = [0, 1].map(|k| w.frames[w.centre][k] as usize);
     let centre = w.planes(w.centre);
     let others: Vec<usize> = (0..w.frames.len()).filter(|&g| g != w.centre).collect();
     let cropped = others.is_empty() || w.strength == 0;
     let columns = width.div_ceil(16);
-    let matches = if cropped { Vec::new() } else { w.matches(&others) };
+    let blocks: Vec<Block> = if cropped { Vec::new() } else { Block::all(&centre[0]) };
+    let matches: Vec<Vec<Match>> = others.iter().map(|&g| blocks.iter().map(|b| found(g, b)).collect()).collect();
     let accepted = matches.iter().flatten().filter(|m| m.accepted).count() as u64;
     let mut built = Built { accepted, ..Built::default() };
     for (k, plane) in centre.iter().enumerate() {
@@ -97,12 +125,30 @@ impl Window<'_> {
         })
     }
 
-    // Of each of these frames, block by block.
-    fn matches(&self, others: &[usize]) -> Vec<Vec<Match>> {
-        let centre = &self.planes(self.centre)[0];
-        let blocks = centre.width.div_ceil(16) * centre.height.div_ceil(16);
-        let of_frame = |&g: &usize| (0..blocks).map(|b| found(centre, &self.planes(g)[0], b)).collect();
-        others.iter().map(of_frame).collect()
+    /// What is found of frame g's block: by the search, which uses luma alone, and by each plane that is asked.
+    pub fn matched(&self, g: usize, block: &Block, choice: Choice) -> Match {
+        let (shift, last) = self.searched(g, block);
+        if !choice.three_planes {
+            return Match { shift, accepted: block.accepts(last) };
+        }
+        let sads = [0, 1, 2].map(|k| self.plane_sad(g, block, k, shift, sample_of(choice.chroma)));
+        assert_eq!(sads[0], last, "the SAD of Y");
+        Match { shift, accepted: (0..3).all(|k| block.in_plane(k).accepts(sads[k])) }
+    }
+
+    /// What the search finds of frame g's block, over whole SADs: its last best and the SAD of that.
+    pub fn searched(&self, g: usize, block: &Block) -> (Pair, u32) {
+        let ([centre, ..], [other, ..]) = (self.planes(self.centre), self.planes(g));
+        let source = block.samples(&centre, (0, 0));
+        block_search(|shift, _| sad(&source, &block.samples(&other, shift)))
+    }
+
+    /// The SAD of frame g's block in plane k, over the samples that it covers there, between the centre's and the
+    /// displaced ones.
+    pub fn plane_sad(&self, g: usize, block: &Block, k: usize, shift: Pair, displaced: Displaced) -> u32 {
+        let (centre, other) = (self.planes(self.centre), self.planes(g));
+        let distance = |(x, y): Pair| centre[k].sample(x, y).abs_diff(displaced(&other, k, (x, y), shift));
+        block.in_plane(k).places().map(|place| u32::from(distance(place))).sum()
     }
 
     // The weight of frame g's displaced sample. The cap bounds the weight alone: whether the block is accepted, and
@@ -110,6 +156,14 @@ impl Window<'_> {
     fn share(&self, g: usize, m: &Match, displaced: u8, c: u8) -> u32 {
         let weight = weight(self.strength, displaced.abs_diff(c)).min(cap(&self.frames[g]));
         if m.accepted { weight } else { 0 }
+    }
+}
+
+/// The displaced sample by a chroma rule.
+pub fn sample_of(chroma: Chroma) -> Displaced {
+    match chroma {
+        Chroma::Whole => whole_samples,
+        Chroma::Half => half_samples,
     }
 }
 
@@ -150,10 +204,10 @@ fn places(plane: &Plane) -> Vec<Pair> {
     (0..width * height).map(|i| (i % width, i / width)).collect()
 }
 
-/// A block of a luma plane, cut at its right and its bottom edge.
+/// A block of a plane, of luma cut at its right and its bottom edge.
 pub struct Block {
-    x: i64,
-    y: i64,
+    pub x: i64,
+    pub y: i64,
     pub columns: usize,
     pub rows: usize,
 }
@@ -167,11 +221,30 @@ impl Block {
         Block { x: x as i64, y: y as i64, columns, rows }
     }
 
+    /// All of a luma plane, in raster order.
+    pub fn all(plane: &Plane) -> Vec<Block> {
+        let count = plane.width.div_ceil(16) * plane.height.div_ceil(16);
+        (0..count).map(|index| Block::of(plane, index)).collect()
+    }
+
+    /// What a block of luma covers in plane k: itself in Y, half of it in U and V, its sides rounded up.
+    pub fn in_plane(&self, k: usize) -> Block {
+        let Block { x, y, columns, rows } = *self;
+        if k == 0 {
+            return Block { x, y, columns, rows };
+        }
+        Block { x: x / 2, y: y / 2, columns: columns.div_ceil(2), rows: rows.div_ceil(2) }
+    }
+
+    /// Its places, row after row.
+    pub fn places(&self) -> impl Iterator<Item = Pair> {
+        let (x, y, columns) = (self.x, self.y, self.columns as i64);
+        (0..columns * self.rows as i64).map(move |i| (x + i % columns, y + i / columns))
+    }
+
     /// The samples of a plane under it, displaced.
     pub fn samples(&self, plane: &Plane, (dx, dy): Pair) -> Vec<u8> {
-        let columns = self.columns as i64;
-        let at = |i: i64| plane.sample(self.x + i % columns + dx, self.y + i / columns + dy);
-        (0..columns * self.rows as i64).map(at).collect()
+        self.places().map(|(x, y)| plane.sample(x + dx, y + dy)).collect()
     }
 
     /// Whether a SAD is below 13 times its area.
@@ -197,14 +270,6 @@ pub fn block_search(mut cost: impl FnMut(Pair, u32) -> u32) -> (Pair, u32) {
     best
 }
 
-// What the search finds over whole SADs.
-fn found(centre: &Plane, other: &Plane, index: usize) -> Match {
-    let block = Block::of(centre, index);
-    let source = block.samples(centre, (0, 0));
-    let (shift, last) = block_search(|shift, _| sad(&source, &block.samples(other, shift)));
-    Match { shift, accepted: block.accepts(last) }
-}
-
 #[cfg(test)]
 mod tests {
     use super::*;
@@ -216,8 +281,12 @@ mod tests {
         let frames: Vec<Frame> = levels.iter().enumerate().map(frame).collect();
         let window = Window { bytes: &bytes, frames: &frames, centre: 0, strength };
         // of one sample every displacement gives that sample
-        let [whole, half] = [Chroma::Whole, Chroma::Half].map(|chroma| build(&window, chroma));
+        let [whole, half] = [Choice::WHOLE, Choice::HALF].map(|choice| build(&window, choice));
         assert_eq!(whole, half);
+        // and all planes are alike
+        for choice in [Chroma::Whole, Chroma::Half].map(Choice::three) {
+            assert_eq!(build(&window, choice), half);
+        }
         half
     }
 
@@ -294,5 +363,71 @@ mod tests {
         assert_eq!(at(0, 1, -15), first([10, 10, 10, 20, 40, 40]));
         assert_eq!(at(2, 1, 15), first([10, 20, 40, 40, 40, 40]));
         assert_eq!([at(0, -15, 1), at(2, 15, 7), at(1, 0, 1)], [10, 40, 20]);
+    }
+
+    // A centre of 100 and another frame, whose planes have these levels, each with another in its first sample.
+    fn three_of((width, height): (u32, u32), levels: [u8; 3], first: [u8; 3], choice: Choice) -> Built {
+        let sides = [(width, height), (width.div_ceil(2), height.div_ceil(2)), (width.div_ceil(2), height.div_ceil(2))];
+        let plane = |k: usize| {
+            let mut samples = vec![levels[k]; (sides[k].0 * sides[k].1) as usize];
+            samples[0] = first[k];
+            samples
+        };
+        let size = sides.map(|(columns, rows)| columns * rows);
+        let bytes = [vec![100; size[0] as usize], plane(0), plane(1), plane(2)].concat();
+        let (luma, chroma) = (width, width.div_ceil(2));
+        let centre = [width, height, 0, 0, 0, luma, chroma, 16];
+        let other = [width, height, size[0], 2 * size[0], 2 * size[0] + size[1], luma, chroma, 16];
+        let frames = [centre, other];
+        build(&Window { bytes: &bytes, frames: &frames, centre: 0, strength: 6 }, choice)
+    }
+
+    // Of 8 by 8 samples 831 passes and 832 does not; of one 12 and 13; of 8 rows of one 103 and 104.
+    #[test]
+    fn each_plane_passes_below_13_times_its_own_area() {
+        // the second block of 17 by 16 covers one column
+        for (size, blocks) in [((16, 16), 1), ((1, 1), 1), ((1, 16), 1), ((17, 16), 2), ((3, 5), 1)] {
+            for (k, chroma) in [(1, Chroma::Whole), (2, Chroma::Whole), (1, Chroma::Half), (2, Chroma::Half)] {
+                let accepted = |level: u8, first: u8| {
+                    let (mut levels, mut firsts) = ([100; 3], [100; 3]);
+                    (levels[k], firsts[k]) = (level, first);
+                    three_of(size, levels, firsts, Choice::three(chroma)).accepted
+                };
+                assert_eq!([accepted(113, 114), accepted(113, 113), accepted(87, 87)], [0; 3], "{size:?}");
+                assert_eq!([accepted(113, 112), accepted(87, 88)], [1; 2], "{size:?}");
+                assert_eq!([accepted(112, 112), accepted(88, 88)], [blocks; 2], "{size:?}");
+            }
+        }
+    }
+
+    // A block that U excludes has no share in Y and V either, and is not counted; without it the sums are the centre's.
+    #[test]
+    fn one_plane_excludes_a_block_from_all() {
+        for chroma in [Chroma::Whole, Chroma::Half] {
+            let excluded = three_of((2, 2), [101, 140, 101], [101, 140, 101], Choice::three(chroma));
+            let centre = Built { output: vec![100; 6], sums: vec![1600; 6], weights: vec![16; 6], accepted: 0 };
+            assert_eq!(excluded, centre);
+            let by_luma = three_of((2, 2), [101, 140, 101], [101, 140, 101], Choice::three(chroma).luma_alone());
+            assert_eq!((by_luma.accepted, by_luma.weights[0], by_luma.weights[4]), (1, 31, 19));
+            // nothing is added up: 12 in each plane is accepted, 13 in one is not
+            assert_eq!(three_of((2, 2), [112; 3], [112; 3], Choice::three(chroma)).accepted, 1);
+            assert_eq!(three_of((2, 2), [113, 100, 100], [113, 100, 100], Choice::three(chroma)).accepted, 0);
+        }
+    }
+
+    // Columns of 100 and 140 beside their mean, and beside themselves, where luma lies one column further right.
+    #[test]
+    fn the_samples_of_the_call_are_measured() {
+        let luma: Vec<u8> = (0..18).map(|c| 7 * c).collect();
+        let stripes: Vec<u8> = (0..9).map(|c| if c % 2 == 0 { 100 } else { 140 }).collect();
+        let bytes = [&luma[..], &stripes, &[120; 9]].concat();
+        let frame = |y, u| [16, 1, y, u, u, 0, 0, 16];
+        let accepted = |centre, choice| {
+            let frames = [frame(1, centre), frame(0, 18)];
+            build(&Window { bytes: &bytes, frames: &frames, centre: 0, strength: 6 }, choice).accepted
+        };
+        let [copied, filtered] = [Chroma::Whole, Chroma::Half].map(Choice::three);
+        assert_eq!([accepted(27, copied), accepted(27, filtered)], [0, 1]);
+        assert_eq!([accepted(18, copied), accepted(18, filtered)], [1, 0]);
     }
 }
