@@ -10,9 +10,10 @@ use crate::model::{self, Luma};
 use crate::motion_comp::{BILINEAR_FILTERS, SIXTAP_FILTERS, fetch_luma_mb_halo, sixtap_mb_luma};
 use crate::motion_search::{self as original, LumaRef};
 use crate::motion_vector::Mv;
-use crate::paper::denoiser::{Built, Choice, Window};
+use crate::paper::denoiser::{Built, Choice, Chroma, Window};
 use crate::paper::search::{NO_CEILING, sad};
 use crate::pictures::{by_account, cut};
+use crate::random::Random;
 use crate::refusals::{Frame, MAX_CAP, packed_size};
 use crate::rows::{self, Rows, Source};
 use crate::three::by_the_originals;
@@ -66,6 +67,7 @@ pub fn run(clip: &[u8]) {
     within_allowances("moving texture", &whole[0]);
     within_allowances("noise", &Whole::of(NOISE, (WIDTH, HEIGHT)));
     beside_whole_samples();
+    beside_luma_alone();
     count_rows(clip);
 }
 
@@ -596,13 +598,17 @@ fn builder((width, height): (usize, usize), count: usize, step: usize) -> [f64; 
     measure(&name, || _ = ours(), || _ = black_box(rust()))
 }
 
-/// Where the pictures of a window lie, down and across alike: each other one an odd way from the middle one, or all at
-/// one place; what the builder with half samples may take of the time of the one without.
-const PANS: [(&str, [usize; 7], f64); 3] = [
-    ("odd, by 1", [5, 7, 5, 6, 7, 5, 7], 1.30),
-    ("odd, by 1 to 5", [1, 3, 5, 6, 7, 9, 11], 1.30),
-    ("still", [6; 7], 1.05),
-];
+/// Where the pictures of a window lie, down and across alike: each other one an odd or an even way from the middle one, or
+/// all at one place.
+type Pan = (&'static str, [usize; 7]);
+const ODD: [Pan; 2] = [("odd, by 1", [5, 7, 5, 6, 7, 5, 7]), ("odd, by 1 to 5", [1, 3, 5, 6, 7, 9, 11])];
+const EVEN: [Pan; 2] = [("even, by 2", [4, 8, 4, 6, 8, 4, 8]), ("even, by 2 to 6", [0, 2, 4, 6, 8, 10, 12])];
+const STILL: Pan = ("still", [6; 7]);
+
+/// What the builder with half samples may take of the time of the one without, where pictures move and where not.
+const HALF_SAMPLES: [f64; 2] = [1.30, 1.05];
+/// What the builder on three planes may take of the time of the one that looks at luma alone.
+const THREE_PLANES: f64 = 1.12;
 
 // The model alone: the builder that moves chroma by half samples, in the first columns, beside the one that moves it by
 // whole samples, at strength 3.
@@ -610,30 +616,54 @@ fn beside_whole_samples() {
     println!("the model's builder with half samples beside the one with whole samples, {WIDTH}x{HEIGHT}, 7 frames,");
     println!("strength 3; ratio = the latter's time / the former's:");
     print_head("half samples", "whole samples");
-    for (name, places, limit) in PANS {
-        let bytes = panned((WIDTH, HEIGHT), &places);
-        let frames = packed_frames((WIDTH, HEIGHT), places.len());
-        let window = Window { bytes: &bytes, frames: &frames, centre: 3, strength: 3 };
-        let as_told = |d: i32| (d % 2 != 0) == (name != "still");
-        assert!(shifts(&window).iter().all(|&(dx, dy)| as_told(dx) && as_told(dy)), "{name}");
-        let [half, whole] = beside_each_other(name, &window);
-        let [least, median] = [0, 1].map(|k| half[k] / whole[k]);
-        println!("  half samples take {least:.3} of the time, least, and {median:.3}, median; limit {limit:.2}");
+    let [moving, still] = HALF_SAMPLES;
+    for (pan, limit) in [(ODD[0], moving), (ODD[1], moving), (STILL, still)] {
+        let calls = [(model::build_half_sample as OverNumbers, Choice::HALF), WHOLE];
+        beside_each_other(pan, pan.0, half_the_way, calls, ("half samples take", limit));
+    }
+}
+
+// The model alone: the builder on three planes, in the first columns, beside the one with the same chroma rule that
+// looks at luma alone, at strength 3, where chroma moves as luma does and excludes few blocks.
+fn beside_luma_alone() {
+    println!("the model's builder on three planes beside the one with the same chroma rule that looks at luma alone,");
+    println!("{WIDTH}x{HEIGHT}, 7 frames, strength 3; ratio = the latter's time / the former's:");
+    print_head("three planes", "luma alone");
+    let whole: [Call; 2] = [(model::build_three_planes, Choice::three(Chroma::Whole)), WHOLE];
+    let half: [Call; 2] = [
+        (model::build_three_planes_half_sample, Choice::three(Chroma::Half)),
+        (model::build_half_sample, Choice::HALF),
+    ];
+    for (name, calls, moving) in [("whole", whole, EVEN), ("half", half, ODD)] {
+        for pan in [moving[0], moving[1], STILL] {
+            let what = ("three planes take", THREE_PLANES);
+            beside_each_other(pan, &format!("{name}, {}", pan.0), as_luma, calls, what);
+        }
     }
 }
 
 type OverNumbers = fn(&[u8], &[u32], usize, u8, model::Lent) -> model::Build;
 
-// Both builders, each with slices of its own, once their answers are those of the originals and of their copy; least
-// and median of each.
-fn beside_each_other(name: &str, window: &Window) -> [[f64; 2]; 2] {
+/// A builder, and what it chooses.
+type Call = (OverNumbers, Choice);
+
+const WHOLE: Call = (model::build_from_numbers, Choice::WHOLE);
+
+// Two builders, each with slices of its own, once their answers are those of the originals and of their copies; the share
+// of the time that the first takes, with its limit.
+fn beside_each_other((pan, places): Pan, name: &str, moved: Moved, calls: [Call; 2], (what, limit): (&str, f64)) {
+    let bytes = panned((WIDTH, HEIGHT), &places, moved);
+    let frames = packed_frames((WIDTH, HEIGHT), places.len());
+    let window = &Window { bytes: &bytes, frames: &frames, centre: 3, strength: 3 };
+    let as_told = |d: i32| (d % 2 != 0) == pan.starts_with("odd");
+    assert!(shifts(window).iter().all(|&(dx, dy)| as_told(dx) && as_told(dy)), "{name}");
     let (numbers, config) = (window.frames.concat(), ArnrConfig::new(window.strength));
     let run = |call: OverNumbers, Built { output, sums, weights, accepted }: &mut Built| {
         let lent = model::Lent { output, sums, weights };
         let got = call(black_box(window.bytes), black_box(&numbers), window.centre, window.strength, lent);
         *accepted = black_box(got).accepted.into();
     };
-    let first = |call: OverNumbers, choice: Choice| {
+    let first = |(call, choice): Call| {
         let expected = by_the_originals(window, &config, choice);
         let samples = expected.output.len();
         let mut built =
@@ -642,20 +672,42 @@ fn beside_each_other(name: &str, window: &Window) -> [[f64; 2]; 2] {
         assert!(built == expected, "{name}");
         built
     };
-    let mut half = first(model::build_half_sample, Choice::HALF);
-    let mut whole = first(model::build_from_numbers, Choice::WHOLE);
-    let name = format!("{name}, {} accepted blocks", half.accepted);
-    measured(&name, || run(model::build_half_sample, &mut half), || run(model::build_from_numbers, &mut whole))
+    let [mut ours, mut other] = calls.map(first);
+    let (name, blocks) = (format!("{name}, {} accepted", ours.accepted), other.accepted);
+    let [ours, other] = measured(&name, || run(calls[0].0, &mut ours), || run(calls[1].0, &mut other));
+    let [least, median] = [0, 1].map(|k| ours[k] / other[k]);
+    println!("  {what} {least:.3} of the time, least, and {median:.3}, median; limit {limit:.2};");
+    println!("  the builder beside it accepts {blocks} blocks");
 }
 
-// The pictures of a texture with noise, packed, from these places on, down and across alike; chroma from half of them.
-fn panned((width, height): (usize, usize), places: &[usize]) -> Vec<u8> {
-    let plane = |g: usize, k: usize, place: usize| {
-        let (columns, rows) = if k == 0 { (width, height) } else { (width.div_ceil(2), height.div_ceil(2)) };
-        content::bytes(5, (100 * k + 257 * place + (g << 16)) as u64, columns * rows, columns)
-    };
-    let picture = |(g, &place): (usize, &usize)| [plane(g, 0, place), plane(g, 1, place / 2), plane(g, 2, place / 2)];
+/// How chroma of a panned picture is made: from the index of the picture, of the plane, the place, columns and rows.
+type Moved = fn(usize, usize, usize, (usize, usize)) -> Vec<u8>;
+
+// The pictures of a texture with noise, packed, from these places on, down and across alike.
+fn panned((width, height): (usize, usize), places: &[usize], moved: Moved) -> Vec<u8> {
+    let luma = |g: usize, place: usize| shaken(g, 0, place, (width, height));
+    let chroma = |g: usize, k: usize, place: usize| moved(g, k, place, (width.div_ceil(2), height.div_ceil(2)));
+    let picture = |(g, &place): (usize, &usize)| [luma(g, place), chroma(g, 1, place), chroma(g, 2, place)];
     places.iter().enumerate().flat_map(picture).flatten().collect()
+}
+
+fn shaken(g: usize, k: usize, place: usize, (columns, rows): (usize, usize)) -> Vec<u8> {
+    content::bytes(5, (100 * k + 257 * place + (g << 16)) as u64, columns * rows, columns)
+}
+
+// From half of the place on.
+fn half_the_way(g: usize, k: usize, place: usize, size: (usize, usize)) -> Vec<u8> {
+    shaken(g, k, place / 2, size)
+}
+
+// Half as large as what lies there, with noise: an odd place is half a sample from the next.
+fn as_luma(g: usize, k: usize, place: usize, (columns, rows): (usize, usize)) -> Vec<u8> {
+    let wide = 2 * columns + 4;
+    let texture = content::bytes(content::TEXTURE, (100 * k + 257 * place) as u64, wide * (2 * rows + 4), wide);
+    let sum = |x: usize, y: usize| (0..16).map(|i| u32::from(texture[(y + i / 4) * wide + x + i % 4])).sum::<u32>();
+    let mut random = Random::new((k + (g << 16)) as u64);
+    let mut noise = |level: u8| level.saturating_add(random.below(13) as u8).saturating_sub(6);
+    (0..columns * rows).map(|i| noise((sum(i % columns * 2, i / columns * 2) / 16) as u8)).collect()
 }
 
 // The same searches and windows, and those of the sample clip.
