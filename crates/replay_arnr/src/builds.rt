@@ -1,4 +1,4 @@
-// One record: the builder called, in both forms or with half samples, its answers and the lent slices compared.
+// One record: the builder of its kind called in both forms, its answers and the lent slices compared.
 use crate::parts::bytes_agree;
 use crate::parts::least;
 use crate::parts::loaded;
@@ -9,15 +9,36 @@ use crate::parts::part;
 use crate::parts::small;
 use crate::parts::words_agree;
 use denoiser::BuildAnswer;
+use denoiser::Choice;
 use weights::ArnrConfig;
 use window::Refusal;
 
-// How a record's window is built: over numbers, over records of the same frames, or over numbers with chroma moved by half
-// samples.
+// How a record's window is built: over numbers, or over records of the same frames.
 enum Form {
     Numbers,
     Records,
-    HalfSamples,
+}
+
+// What the builder of the record's kind chooses.
+fn choice_of(record: &[u8; 144]) -> Choice {
+    match number(record, 0) {
+        8 => Choice {
+            half_sample: true,
+            three_planes: false,
+        },
+        9 => Choice {
+            half_sample: false,
+            three_planes: true,
+        },
+        10 => Choice {
+            half_sample: true,
+            three_planes: true,
+        },
+        _ => Choice {
+            half_sample: false,
+            three_planes: false,
+        },
+    }
 }
 
 fn config_of(record: &[u8; 144]) -> ArnrConfig {
@@ -81,8 +102,30 @@ fn hold(record: &[u8; 144], payload: &[u8], output: &[u8], sums: &[u32], weights
         && words_agree(weights, part(payload, from + samples + entries, entries))
 }
 
+// The public call of each rule.
+fn over_numbers(
+    choice: Choice,
+    bytes: &[u8],
+    numbers: &[u32],
+    centre: usize,
+    config: ArnrConfig,
+    output: &mut [u8],
+    sums: &mut [u32],
+    weights: &mut [u32],
+) -> BuildAnswer {
+    if choice.three_planes {
+        let half = choice.half_sample;
+        arnr::build_three_planes(bytes, numbers, centre, config, half, output, sums, weights)
+    } else if choice.half_sample {
+        arnr::build_half_sample(bytes, numbers, centre, config, output, sums, weights)
+    } else {
+        arnr::build_from_numbers(bytes, numbers, centre, config, output, sums, weights)
+    }
+}
+
 fn built(
     form: Form,
+    choice: Choice,
     bytes: &[u8],
     numbers: &[u32],
     centre: usize,
@@ -92,16 +135,30 @@ fn built(
     weights: &mut [u32],
 ) -> BuildAnswer {
     match form {
-        Form::Numbers => {
-            arnr::build_from_numbers(bytes, numbers, centre, config, output, sums, weights)
-        }
+        Form::Numbers => over_numbers(
+            choice,
+            bytes,
+            numbers,
+            centre,
+            config,
+            output,
+            sums,
+            weights,
+        ),
         Form::Records => {
             let count = window::frame_count(numbers);
             let frames = framelist::records_of(numbers);
-            framelist::build_of(bytes, frames, count, centre, config, output, sums, weights)
-        }
-        Form::HalfSamples => {
-            arnr::build_half_sample(bytes, numbers, centre, config, output, sums, weights)
+            framelist::build_of(
+                bytes,
+                frames,
+                count,
+                centre,
+                config,
+                choice,
+                output,
+                sums,
+                weights,
+            )
         }
     }
 }
@@ -119,7 +176,18 @@ fn builds(
 ) -> bool {
     let centre = number(record, 5);
     let config = config_of(record);
-    let answer = built(form, bytes, numbers, centre, config, output, sums, weights);
+    let choice = choice_of(record);
+    let answer = built(
+        form,
+        choice,
+        bytes,
+        numbers,
+        centre,
+        config,
+        output,
+        sums,
+        weights,
+    );
     has_answer(record, answer) && hold(record, payload, output, sums, weights)
 }
 
@@ -150,9 +218,4 @@ pub(crate) fn agrees(pictures: &[u8], payload: &[u8], record: &[u8; 144]) -> boo
     let over_numbers = agrees_by(Form::Numbers, pictures, payload, record);
     let over_records = agrees_by(Form::Records, pictures, payload, record);
     over_numbers && over_records
-}
-
-// The builder with half samples.
-pub(crate) fn agrees_half(pictures: &[u8], payload: &[u8], record: &[u8; 144]) -> bool {
-    agrees_by(Form::HalfSamples, pictures, payload, record)
 }

@@ -1,7 +1,7 @@
-// Replays the stored answers of the Rust originals, the documents' refusals, and windows with caps below 16, on the builder, over
-// numbers and over frame records, and on its configuration, and windows on the builder with half samples, and prints how many cases
-// it compared and how many differ: the empty window first, then one frame, then strength 0, then windows, refusals, configurations,
-// caps and half samples.
+// Replays the stored answers of the Rust originals and the documents' refusals on the builders, each over numbers and over frame
+// records, and on their configuration, and prints how many cases it compared and how many differ: the empty window first, then one
+// frame, then strength 0, then windows, refusals, configurations, caps, half samples, three planes, and three planes with half
+// samples.
 // The layout of `pictures` and `cases` is written in oracle/src/denoiser/mod.rs.
 mod builds;
 mod parts;
@@ -19,7 +19,7 @@ fn replay_one(fd: i32, pictures: &[u8], counts: &mut [u64; 32]) -> bool {
         tally::print_all(counts, parts::number(&record, 1));
         return false;
     }
-    if kind == 0 || 8 < kind {
+    if kind == 0 || 10 < kind {
         tally::print_failure(counts, b"a record of no known kind");
         return false;
     }
@@ -31,14 +31,6 @@ fn replay_one(fd: i32, pictures: &[u8], counts: &mut [u64; 32]) -> bool {
     if !parts::read_part(fd, &mut payload, parts::number(&record, 17)) {
         tally::print_failure(counts, b"a payload that ends early or is too long");
         return false;
-    }
-    if kind == 8 {
-        tally::add(
-            counts,
-            kind,
-            builds::agrees_half(pictures, &payload, &record),
-        );
-        return true;
     }
     tally::add(counts, kind, builds::agrees(pictures, &payload, &record));
     tally::add_both(counts);
@@ -61,7 +53,7 @@ fn unread(name: &[u8]) {
 }
 
 fn main() {
-    let mut pictures = io::large_buffer();
+    let mut pictures = parts::pictures_buffer();
     let bytes = os::open_read(b"pictures");
     if bytes < 0 {
         unread(b"pictures");

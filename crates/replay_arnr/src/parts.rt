@@ -8,6 +8,13 @@ const OLD_BYTE: u8 = 165;
 
 const OLD_WORD: u32 = 3000000001;
 
+// Room for the pictures.
+pub(crate) fn pictures_buffer() -> [u8; 98304]
+    ensures { λ r. ⌜ 98304 ≡ length r ⌝ }
+{
+    [0; 98304]
+}
+
 // Room for the largest payload.
 pub(crate) fn payload_buffer() -> [u8; 240000]
     ensures { λ r. ⌜ 240000 ≡ length r ⌝ }

@@ -1,4 +1,4 @@
-// Counts by kind, 1 to 8: compared at the kind, differing at 16 plus the kind. At 15 and 31 stand those of
+// Counts by kind, 1 to 10: compared at the kind, differing at 16 plus the kind. At 15 and 31 stand those of
 // all, at 16 the first record that differs, at 0 the builds that were run in both forms.
 use std::num::wrapping_add_u64;
 
@@ -8,7 +8,7 @@ fn bump(counts: &mut [u64; 32], at: usize) {
     }
 }
 
-// One more case of a kind from 1 to 8.
+// One more case of a kind from 1 to 10.
 pub(crate) fn add(counts: &mut [u64; 32], kind: usize, agrees: bool) {
     bump(counts, 15);
     bump(counts, kind);
@@ -56,6 +56,8 @@ fn print_kinds(counts: &[u64; 32]) {
     print_line(counts, 6, b"configurations: ");
     print_line(counts, 7, b"caps: ");
     print_line(counts, 8, b"half samples: ");
+    print_line(counts, 9, b"three planes: ");
+    print_line(counts, 10, b"three planes, half samples: ");
     print_counts(counts, 15, b"all: ");
     print(b"; ");
     io::print_decimal(1, counts[0]);
