@@ -204,13 +204,13 @@ pub fn build_altref_by(
       weights = now (weights .exit);
     }) ⌝ }
 {
-    let count = frames.len();
-    let n = taken(count);
-    let numbers = flatten(frames, n);
+    let m = frames.len();
+    let n = taken(m);
+    let array = flatten(frames, n);
     core_by(
         bytes,
-        numbers,
-        count,
+        array,
+        m,
         centre,
         config,
         choice,

@@ -579,8 +579,8 @@ fn blend_grid_row(
     requires { ⌜ Lent (packedSize (f .width) (f .height)) (now out) (now sums) (now weights) ⌝ }
     requires { ⌜ Light (now curve) ⌝ }
     requires { ⌜ Slack 5 (now sums) (now weights) ⌝ }
-    ensures { λ r. ⌜ (r ≡ sumBelow (λ j. gate (chosenAccepts choice (packedScene (f .width) (f .height) (now (out .entry))) (pictureOf (now (bytes .entry)) f) i j) 1)
-        (gridSide (f .width))) × (r ≤ gridSide (f .width)) ⌝ }
+    ensures { λ r. ⌜ (r ≡ sumBelow (λ j. gate (chosenAccepts choice (packedScene (f .width) (f .height) (now (out .entry)))
+        (pictureOf (now (bytes .entry)) f) i j) 1) (gridSide (f .width))) × (r ≤ gridSide (f .width)) ⌝ }
     ensures { λ _. ⌜ Spread (f .width) (f .height) (λ k x y. gate (eqb (y / unitOf k) i) (curveTerm choice (now (curve .entry)) (packedScene (f .width)
         (f .height) (now (out .entry))) (pictureOf (now (bytes .entry)) f) k x y)) (now (sums .entry)) (now (sums .exit)) ⌝ }
     ensures { λ _. ⌜ Spread (f .width) (f .height) (λ k x y. gate (eqb (y / unitOf k) i) (curveShare choice (now (curve .entry)) (packedScene (f .width)

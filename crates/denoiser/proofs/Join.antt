@@ -1,7 +1,7 @@
 -- What is made of a frame depends on the centre only by its samples in the planes, and on nothing but the frame, the centre, the size and the strength.
 -- This joins what the code reads, the packed copy of the centre and the lent curve, to the definitions. Assumes nothing.
 use mathlib.Core.Path.{_≡_, refl, sym, ap, _∙_, fun-ext}
-use mathlib.Core.Bool.{Bool, cond, _&&_}
+use mathlib.Core.Bool.{Bool}
 use mathlib.Core.List.{List}
 use Prim.Native.Nat.{ℕ, zero, suc, _+_, _*_, _/_, _^_, _≤_, _<_, min}
 use native.Mathlib.Nat.{mul-le-mul, pow-le-pow-right}

@@ -1,30 +1,24 @@
 -- Pictures of frames and of packed lists, and what a frame adds by them. Assumes nothing.
 use mathlib.Core.Path.{_≡_, refl, sym, ap, _∙_}
-use mathlib.Core.Bool.{Bool, true, false}
 use mathlib.Core.List.{List}
-use Prim.Native.Nat.{ℕ, _+_, _*_, _/_, _≤_, _<_, min}
-use native.Mathlib.Nat.{mul-le-mul}
+use Prim.Native.Nat.{ℕ, _*_, _/_, _≤_, _<_, min}
 use native.Mathlib.Omega.{arith}
 use native.Mathlib.Decide.{decLt}
 use lib.IntN.{ℤ, pos}
 use lib.ListN.{getD, List·getD-eq-default}
 use Rattle.laws.specs.Tabulate.{tabulate}
 use Rattle.laws.proofs.Tabulate.{length-tabulate, getD-tabulate}
-use Rattle.prediction.specs.Plane.{Samples, sampleAt}
 use Rattle.window.specs.declared.Frame.{Frame}
 use Rattle.window.specs.Frames.{planeOf}
-use Rattle.denoiser.specs.Grid.{blockIn, unitOf}
-use Rattle.denoiser.specs.declared.Block.{Block}
-use Rattle.denoiser.specs.declared.Displacement.{Displacement}
+use Rattle.denoiser.specs.Grid.{unitOf}
 use Rattle.denoiser.specs.declared.Choice.{Choice}
-use Rattle.denoiser.specs.Search.{displacedBy, displacementIn}
 use Rattle.denoiser.specs.Window.{Picture, Other, Scene, gate, shareOf, displacementOf}
-use Rattle.denoiser.specs.Chroma.{halfSample, sampleIn, chosenSample, chosenAccepts}
+use Rattle.denoiser.specs.Chroma.{sampleIn, chosenSample, chosenAccepts}
 use Rattle.denoiser.specs.Pictures.{pictureOf}
-use Rattle.denoiser.specs.Internal.{Light, Placed, within, filteredIn, shareBy, termBy, curveRule, curveShare, curveTerm, cappedCurve, otherShare, otherTerm}
+use Rattle.denoiser.specs.Internal.{Light, shareBy, termBy, curveRule, curveShare, curveTerm, cappedCurve, otherShare, otherTerm}
 use Rattle.denoiser.proofs.Gates.{gate-most, gate-times}
-use Rattle.denoiser.proofs.Halves.{sample-in-byte, filtered-is, copied-is}
-use Rattle.denoiser.proofs.Place.{placed-same, share-most, term-most}
+use Rattle.denoiser.proofs.Halves.{sample-in-byte}
+use Rattle.denoiser.proofs.Place.{share-most, term-most}
 use Rattle.denoiser.proofs.Planes.{sample-byte}
 
 -- every sample of a picture is a byte

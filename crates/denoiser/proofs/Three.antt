@@ -20,7 +20,7 @@ use Rattle.denoiser.specs.Chroma.{sampleIn, planeSad, planePasses, three
 use Rattle.denoiser.specs.Pictures.{pictureOf}
 use Rattle.denoiser.specs.Demand.{Held}
 use Rattle.denoiser.specs.Build.{Request, BuildInput, sceneOf, windowOf, cropped, builtOf, BuildBy}
-use Rattle.denoiser.proofs.Gates.{gate-most, both}
+use Rattle.denoiser.proofs.Gates.{both}
 use Rattle.denoiser.proofs.Join.{Agree, three-accepted-same}
 use Rattle.denoiser.proofs.Others.{others-each}
 use Rattle.denoiser.proofs.Rules.{Alike, build-alike}

@@ -1,5 +1,5 @@
 -- `altref::core_by` meets its contract: refusals 1 and 2 by their definition, all else by the contract of the builder over numbers. Assumes nothing.
-use mathlib.Core.Path.{_≡_, refl, sym, ap, _∙_}
+use mathlib.Core.Path.{sym}
 use native.Mathlib.Omega.{arith}
 use lib.Seq.{length-take-le}
 use borrow.Author.Needs.{needs}

@@ -1,12 +1,12 @@
 -- `arnr::accumulate::blend_at` meets its contract: what the block adds is what the block that covers (x, y) adds, where that is this block. Assumes nothing.
 use mathlib.Core.Path.{_≡_, sym, ap, _∙_}
 use mathlib.Core.Bool.{Bool, true, false}
-use Prim.Native.Nat.{ℕ, _+_, _*_, _/_, _≤_, _<_}
+use Prim.Native.Nat.{ℕ, _/_, _≤_}
 use lib.Dec.{eqb}
 use Rattle.denoiser.specs.declared.Block.{Block}
 use Rattle.denoiser.specs.Grid.{gridBlock, unitOf}
 use Rattle.denoiser.specs.Chroma.{sampleIn, chosenAccepts}
-use Rattle.denoiser.specs.Window.{gate, costOf, displacementOf, sadAccepted, blockAccepted}
+use Rattle.denoiser.specs.Window.{gate, displacementOf, sadAccepted, blockAccepted}
 use Rattle.denoiser.specs.Pictures.{pictureOf}
 use Rattle.denoiser.specs.Internal.{Short, chromaPasses, packedPicture, packedScene, shareBy, termBy}
 use Rattle.denoiser.proofs.Cover.{grid-lies, taken, uncovered}

@@ -1,9 +1,5 @@
 -- `arnr::accumulate::blend_copied` meets its contract: each plane takes up room for one frame. Assumes nothing.
-use Prim.Native.Nat.{ℕ, _≤_, _<_}
-use lib.IntN.{ℤ}
 use Rattle.window.specs.Layout.{packedSize}
-use Rattle.denoiser.specs.Search.{displacedBy, displacementIn}
-use Rattle.denoiser.specs.Pictures.{pictureOf}
 use Rattle.denoiser.specs.Internal.{Lent, Slack}
 use Rattle.denoiser.proofs.Pictures.{picture-byte}
 use Rattle.denoiser.proofs.Spreads.{plane-slack, plane-lent, slack-less, spread-three}

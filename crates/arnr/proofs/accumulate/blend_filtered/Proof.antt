@@ -5,11 +5,11 @@ use mathlib.Core.Bool.{true}
 use mathlib.Core.List.{List}
 use Prim.Native.Nat.{ℕ, _≤_, _<_}
 use lib.IntN.{pos}
-use lib.ListN.{length, getD}
+use lib.ListN.{length}
 use Rattle.prediction.specs.Prediction.{squareOf}
 use Rattle.window.specs.Layout.{sideOf, offsetOf, packedSize}
 use Rattle.denoiser.specs.Grid.{blockIn}
-use Rattle.denoiser.specs.Chroma.{halfSample, sampleIn}
+use Rattle.denoiser.specs.Chroma.{halfSample}
 use Rattle.denoiser.specs.Window.{gate}
 use Rattle.denoiser.specs.Pictures.{pictureOf}
 use Rattle.denoiser.specs.Internal.{Lent, Slack, Placed, within, termBy, shareBy, packedPicture, blockSamples}

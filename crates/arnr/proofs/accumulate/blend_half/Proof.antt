@@ -6,7 +6,6 @@ use Rattle.denoiser.specs.Grid.{blockIn}
 use Rattle.denoiser.specs.Internal.{Lies, packedPicture}
 use Rattle.denoiser.proofs.Halves.{chroma-block}
 use Rattle.denoiser.proofs.Planes.{block-fits, plane-end, some-side}
-use native.Mathlib.Omega.{arith}
 use borrow.Author.Needs.{needs}
 use Rattle.arnr.proofs.accumulate.blend_half.Statement.{statement}
 use Rattle.arnr.proofs.accumulate.blend_half.Tie as tie

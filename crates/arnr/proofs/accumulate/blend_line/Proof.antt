@@ -1,5 +1,4 @@
 -- `arnr::accumulate::blend_line` meets its contract: a row that is raised as a part of each slice. Assumes nothing.
-use mathlib.Core.List.{List}
 use mathlib.Core.Path.{_≡_, ap, _∙_, refl, sym}
 use Prim.Native.Nat.{ℕ, _+_, _-_, _*_, _^_, _≤_, _<_}
 use native.Mathlib.Nat.{add-sub-cancel-left}

@@ -1,7 +1,7 @@
 -- `arnr::accumulate::blend_planes` meets its contract: filtered or copied, and added where U and V pass. Assumes nothing.
 use mathlib.Core.Path.{_≡_, sym, ap, _∙_}
 use mathlib.Core.Bool.{Bool, true, false}
-use Prim.Native.Nat.{ℕ, _≤_, _<_}
+use Prim.Native.Nat.{ℕ, _<_}
 use lib.IntN.{pos}
 use lib.ListN.{getD}
 use Rattle.denoiser.specs.Grid.{blockIn}
@@ -10,7 +10,7 @@ use Rattle.denoiser.specs.Window.{gate}
 use Rattle.denoiser.specs.Pictures.{pictureOf}
 use Rattle.denoiser.specs.Internal.{within, termBy, shareBy, packedPicture, chromaPasses}
 use Rattle.denoiser.proofs.Gates.{gate-on, gate-off}
-use Rattle.denoiser.proofs.Halves.{copied-is, all-copied, filtered-half, square-long}
+use Rattle.denoiser.proofs.Halves.{copied-is, all-copied, filtered-half}
 use Rattle.denoiser.proofs.Passes.{copies-are, squares-are}
 use Rattle.denoiser.proofs.Pictures.{picture-byte}
 use Rattle.denoiser.proofs.Place.{term-goes, share-goes}

@@ -1,9 +1,7 @@
 -- `arnr::accumulate::filtered` meets its contract. Assumes nothing.
-use Prim.Native.Nat.{_≤_, _<_}
 use Rattle.denoiser.specs.Pictures.{pictureOf}
 use Rattle.denoiser.proofs.Planes.{block-fits}
 use native.Mathlib.Omega.{arith}
-use borrow.Author.Needs.{needs}
 use Rattle.arnr.proofs.accumulate.filtered.Statement.{statement}
 use Rattle.arnr.proofs.accumulate.filtered.Tie as tie
 

@@ -1,10 +1,9 @@
 -- `arnr::sad::eight_at` meets its contract. Assumes nothing.
 use mathlib.Core.Path.{refl, _∙_}
-use Prim.Native.Nat.{_+_, _*_, _≤_}
+use Prim.Native.Nat.{_+_, _*_}
 use native.Mathlib.Nat.{add-sub-cancel-left}
 use native.Mathlib.Omega.{arith}
 use borrow.Author.Needs.{needs}
-use lib.ListN.{length}
 use Rattle.laws.proofs.Slices.{mid-long}
 use Rattle.denoiser.proofs.Passes.{eight-is}
 use Rattle.arnr.proofs.sad.eight_at.Statement.{statement}

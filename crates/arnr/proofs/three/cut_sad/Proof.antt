@@ -1,6 +1,6 @@
 -- `arnr::three::cut_sad` meets its contract. Assumes nothing.
 use mathlib.Core.Path.{_≡_, refl}
-use Prim.Native.Nat.{ℕ, _-_, _≤_}
+use Prim.Native.Nat.{_-_, _≤_}
 use native.Mathlib.Omega.{arith}
 use borrow.Author.Needs.{needs}
 use Rattle.prediction.specs.Plane.{sampleAt}

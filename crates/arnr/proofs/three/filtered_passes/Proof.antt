@@ -1,14 +1,12 @@
 -- `arnr::three::filtered_passes` meets its contract: the block is measured up to 13 times the area that it covers. Assumes nothing.
-use Prim.Native.Nat.{_+_, _*_, _≤_, _<_}
+use Prim.Native.Nat.{_≤_}
 use native.Mathlib.Nat.{le-trans}
-use lib.ListN.{length}
-use Rattle.window.specs.Layout.{sideOf, offsetOf}
+use Rattle.window.specs.Layout.{sideOf}
 use Rattle.denoiser.specs.Grid.{blockIn}
 use Rattle.denoiser.specs.Internal.{Lies, packedPicture}
 use Rattle.denoiser.proofs.Halves.{chroma-block}
 use Rattle.denoiser.proofs.Passes.{ceiled-passes}
 use Rattle.denoiser.proofs.Planes.{block-fits, plane-end}
-use native.Mathlib.Omega.{arith}
 use borrow.Author.Needs.{needs}
 use Rattle.arnr.proofs.three.filtered_passes.Statement.{statement}
 use Rattle.arnr.proofs.three.filtered_passes.Tie as tie

@@ -1,5 +1,4 @@
 -- `arnr::three::line_sad` meets its contract: a part of the block and a part of the packed plane. Assumes nothing.
-use mathlib.Core.List.{List}
 use mathlib.Core.Path.{_≡_, ap, _∙_, refl, sym}
 use Prim.Native.Nat.{ℕ, _+_, _-_, _*_, _≤_, _<_}
 use native.Mathlib.Nat.{add-sub-cancel-left}

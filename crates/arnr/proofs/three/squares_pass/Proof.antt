@@ -1,6 +1,5 @@
 -- `arnr::three::squares_pass` meets its contract: V is asked where U passes. Assumes nothing.
-use mathlib.Core.Path.{_≡_, refl, sym, ap, _∙_}
-use mathlib.Core.Bool.{Bool, true, false, cond, _&&_}
+use mathlib.Core.Path.{sym, _∙_}
 use borrow.Author.Needs.{needs}
 use Rattle.denoiser.proofs.Passes.{asked-both, asked-first, not-asked}
 use Rattle.arnr.proofs.three.squares_pass.Statement.{statement}
