@@ -193,11 +193,7 @@ pub fn build_altref_by(
 ) -> BuildAnswer
     ensures { λ r. ⌜ BuildBy (ruleOf choice) (record {
       request = asked (now (bytes .entry)) (flat (now (frames .entry))) centre (config .strength);
-      lent = record {
-        output = now (output .entry);
-        sums = now (sums .entry);
-        weights = now (weights .entry);
-      };
+      lent = record { output = now (output .entry); sums = now (sums .entry); weights = now (weights .entry) };
     }) r (record {
       output = now (output .exit);
       sums = now (sums .exit);

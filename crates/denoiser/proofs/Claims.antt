@@ -104,7 +104,7 @@ least cost = search-least cost
 pub answer-measured : (cost : Displacement → ℕ) (P : Displacement → Type 0) → Each P (measuredBy cost) → P (blockSearch cost)
 answer-measured cost P e = search-one cost P e
 
--- in an accepted call, by either choice, a total weight is at most 16,384 and a sum at most 4,177,920
+-- in an accepted call, by any choice, a total weight is at most 16,384 and a sum at most 4,177,920
 module _ (o : Choice) (b : BuildInput) (s : Size) (e : checks (givenOf b) ≡ accepted s) (byte : (i : ℕ) → getD (b .request .bytes) i 0 < 256) (k x y : ℕ) where
   pub total-limit : totalAt (ruleOf o (sceneOf (b .request))) (windowOf (b .request)) k x y ≤ 16384
   unfolding windowOf

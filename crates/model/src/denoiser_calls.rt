@@ -208,17 +208,8 @@ pub extern "C" fn vp8model_build_three_planes(
     }) ⌝ }
 {
     let config = ArnrConfig { strength: strength };
-    let answer = arnr::build_three_planes(
-        bytes,
-        numbers,
-        centre,
-        config,
-        false,
-        output,
-        sums,
-        weights,
-    );
-    numbers::build_numbers(answer)
+    let r = arnr::build_three_planes(bytes, numbers, centre, config, false, output, sums, weights);
+    numbers::build_numbers(r)
 }
 
 #[no_mangle]
@@ -245,15 +236,6 @@ pub extern "C" fn vp8model_build_three_planes_half_sample(
     }) ⌝ }
 {
     let config = ArnrConfig { strength: strength };
-    let answer = arnr::build_three_planes(
-        bytes,
-        numbers,
-        centre,
-        config,
-        true,
-        output,
-        sums,
-        weights,
-    );
-    numbers::build_numbers(answer)
+    let r = arnr::build_three_planes(bytes, numbers, centre, config, true, output, sums, weights);
+    numbers::build_numbers(r)
 }
