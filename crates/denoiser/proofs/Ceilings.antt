@@ -61,26 +61,29 @@ module _ (centre bytes : List ℕ) (p : PlaneNumbers) (b : Block) (d : Displacem
         → r .sad ≡ lumaCost centre bytes p b d
     luma-whole l u v h = omega (arith, luma-read, luma-most l u v)
 
+-- m coordinates that all lie in a plane once moved are all moved as far as their first, and are inside; and a row's place, seen from the block's
+pub moved : (m n x a k : ℕ) (v : ℤ) → a ≡ nearestIn n (pos x +ℤ v) → Runs x m v n → k < m → a + k ≡ nearestIn n (pos (x + k) +ℤ v)
+moved m n x a k v e r h = omega (arith, sum (pos x) v .up, sum (pos (x + k)) v .up, r .left, r .right)
+
+pub moved-inside : (m n x a k : ℕ) (v : ℤ) → a ≡ nearestIn n (pos x +ℤ v) → Runs x m v n → k < m → a + k < n
+moved-inside m n x a k v e r h = omega (arith, e, sum (pos x) v .up, r .left, r .right)
+
+pub across-from : (s t w u j k : ℕ) → s + t * w + u + j * w + k ≡ s + (t + j) * w + (u + k)
+across-from s t w u j k = rw (add-mul t j w) (omega arith)
+
 -- a block of 16 by 16 that lies in the plane once moved: its rows stand a stride apart from its first sample on
 module _ (centre bytes : List ℕ) (p : PlaneNumbers) (b : Block) (d : Displacement) (left top : ℕ)
     (x-is : left ≡ nearestIn (p .columns) (pos (b .x) +ℤ d .dx)) (y-is : top ≡ nearestIn (p .rows) (pos (b .y) +ℤ d .dy))
     (wide : Runs (b .x) 16 (d .dx) (p .columns)) (high : Runs (b .y) 16 (d .dy) (p .rows))
     (square : (b .columns ≡ 16) × (b .rows ≡ 16)) (l : Lies b (p .columns) (p .rows)) where
-  -- sixteen coordinates are all moved as far as their first
-  moved : (n x a k : ℕ) (v : ℤ) → a ≡ nearestIn n (pos x +ℤ v) → Runs x 16 v n → k < 16 → a + k ≡ nearestIn n (pos (x + k) +ℤ v)
-  moved n x a k v e r h = omega (arith, sum (pos x) v .up, sum (pos (x + k)) v .up, r .left, r .right)
-
   pub in-bounds : (left + 15 < p .columns) × (top + 15 < p .rows)
   in-bounds = (
-    omega (arith, x-is, sum (pos (b .x)) (d .dx) .up, wide .left, wide .right),
-    omega (arith, y-is, sum (pos (b .y)) (d .dy) .up, high .left, high .right),
+    moved-inside 16 (p .columns) (b .x) left 15 (d .dx) x-is wide (omega arith),
+    moved-inside 16 (p .rows) (b .y) top 15 (d .dy) y-is high (omega arith),
   )
 
   across : (t w u j k : ℕ) → t * w + u + j * w + k ≡ (t + j) * w + (u + k)
   across t w u j k = rw (add-mul t j w) (omega arith)
-
-  across-from : (s t w u j k : ℕ) → s + t * w + u + j * w + k ≡ s + (t + j) * w + (u + k)
-  across-from s t w u j k = rw (add-mul t j w) (omega arith)
 
   pub row-placed : (j : ℕ) → j < 16
       → rowApart centre (b .y * p .columns + b .x) (p .columns) bytes (p .start + top * p .stride + left) (p .stride) j ≡ lumaRow centre bytes p b d j
@@ -96,7 +99,7 @@ module _ (centre bytes : List ℕ) (p : PlaneNumbers) (b : Block) (d : Displacem
           (ap (λ (s : ℕ). distance s (getD bytes (p .start + (top + j) * p .stride + (left + k)) 0))
           (sym (luma-at (p .columns) (p .rows) centre (b .x + k) (b .y + j) (omega (arith, l .wide, square .0)) (omega (arith, l .high, square .1))))
           ∙ ap (distance (sampleAt (packedPlane 0 (p .columns) (p .rows) centre) (pos (b .x + k)) (pos (b .y + j))))
-          (displaced-at bytes p d (b .x + k) (b .y + j) (moved (p .columns) (b .x) left k (d .dx) x-is wide g) (moved (p .rows) (b .y) top j (d .dy) y-is high h)))
+          (displaced-at bytes p d (b .x + k) (b .y + j) (moved 16 (p .columns) (b .x) left k (d .dx) x-is wide g) (moved 16 (p .rows) (b .y) top j (d .dy) y-is high h)))
 
 -- the block search cut short: a displacement is read up to the best SAD
 abbrev pub stepUpTo : (Displacement → ℕ) → ℕ → Displacement → Displacement

@@ -13,7 +13,6 @@ use lib.ListN.{length, getD, take, drop, length-drop}
 use lib.Seq.{getD-drop, take-length}
 use borrow.Rule.Slice.PartMut.{midOf}
 use Rattle.laws.specs.Sums.{sumBelow}
-use Rattle.laws.proofs.Signed.{sum}
 use Rattle.laws.proofs.Slices.{mid-at}
 use Rattle.laws.proofs.Sums.{sum-same}
 use Rattle.prediction.specs.declared.ceiling.Ceiled.{Ceiled}
@@ -33,6 +32,7 @@ use Rattle.denoiser.specs.Window.{Picture, Scene, displacementOf, sadAcc
 use Rattle.denoiser.specs.Chroma.{halfSample, sampleIn, planeSad, planePasses, threeAccepted, chosenAccepts}
 use Rattle.denoiser.specs.Pictures.{pictureOf}
 use Rattle.denoiser.specs.Internal.{Fits, Runs, Lies, rowDistance, eightApart, planeIn, packedPlane, lumaRow, sadRow, blockSamples, filteredIn, passesBy, chromaPasses}
+use Rattle.denoiser.proofs.Ceilings.{moved, moved-inside, across-from}
 use Rattle.denoiser.proofs.Halves.{filtered-is, copied-is, chroma-alike, block-holds}
 use Rattle.denoiser.proofs.Pictures.{picture-byte}
 use Rattle.denoiser.proofs.Planes.{sample-below, row-below, packed-at, displaced-at}
@@ -99,15 +99,9 @@ module _ (out bytes : List ℕ) (p : PlaneNumbers) (b : Block) (d : Displacement
     (x-is : left ≡ nearestIn (p .columns) (pos (b .x) +ℤ d .dx)) (y-is : top ≡ nearestIn (p .rows) (pos (b .y) +ℤ d .dy))
     (wide : Runs (b .x) 8 (d .dx) (p .columns)) (high : Runs (b .y) (b .rows) (d .dy) (p .rows))
     (eight : b .columns ≡ 8) (l : Lies b (p .columns) (p .rows)) where
-  moved : (n x a k m : ℕ) (v : ℤ) → a ≡ nearestIn n (pos x +ℤ v) → Runs x m v n → k < m → a + k ≡ nearestIn n (pos (x + k) +ℤ v)
-  moved n x a k m v e r h = omega (arith, sum (pos x) v .up, sum (pos (x + k)) v .up, r .left, r .right)
-
-  inside : (n x a k m : ℕ) (v : ℤ) → a ≡ nearestIn n (pos x +ℤ v) → Runs x m v n → k < m → a + k < n
-  inside n x a k m v e r h = omega (arith, e, sum (pos x) v .up, r .left, r .right)
-
   pub eight-there : Fits bytes p → (r : ℕ) → r < b .rows → p .start + top * p .stride + left + r * p .stride + 8 ≤ length bytes
   eight-there f r h =
-      let last = sample-below bytes p f (left + 7) (top + r) (inside (p .columns) (b .x) left 7 8 (d .dx) x-is wide (omega arith)) (inside (p .rows) (b .y) top r (b .rows) (d .dy) y-is high h) in
+      let last = sample-below bytes p f (left + 7) (top + r) (moved-inside 8 (p .columns) (b .x) left 7 (d .dx) x-is wide (omega arith)) (moved-inside (b .rows) (p .rows) (b .y) top r (d .dy) y-is high h) in
       let across : (top + r) * p .stride ≡ top * p .stride + r * p .stride = add-mul top r (p .stride) in
       omega (arith, last, across)
 
@@ -117,9 +111,6 @@ module _ (out bytes : List ℕ) (p : PlaneNumbers) (b : Block) (d : Displacement
   unfolding eightApart sadRow
   eight-placed r h = rw eight (sum-same _ _ 8 (λ k g. at-k k g))
     where
-      across-from : (s t w u j k : ℕ) → s + t * w + u + j * w + k ≡ s + (t + j) * w + (u + k)
-      across-from s t w u j k = rw (add-mul t j w) (omega arith)
-
       at-k : (k : ℕ) → k < 8
           → distance (getD out (at + b .y * p .columns + b .x + r * p .columns + k) 0) (getD bytes (p .start + top * p .stride + left + r * p .stride + k) 0)
           ≡ distance (sampleAt (packedPlane at (p .columns) (p .rows) out) (pos (b .x + k)) (pos (b .y + r)))
@@ -129,7 +120,7 @@ module _ (out bytes : List ℕ) (p : PlaneNumbers) (b : Block) (d : Displacement
           (packed-from at (p .columns) (p .rows) (b .x) (b .y) k r out (omega (arith, l .wide, eight)) (omega (arith, l .high)))
           ∙ ap (λ (t : ℕ). distance (sampleAt (packedPlane at (p .columns) (p .rows) out) (pos (b .x + k)) (pos (b .y + r))) (getD bytes t 0)) (across-from (p .start) top (p .stride) left r k)
           ∙ ap (distance (sampleAt (packedPlane at (p .columns) (p .rows) out) (pos (b .x + k)) (pos (b .y + r))))
-          (displaced-at bytes p d (b .x + k) (b .y + r) (moved (p .columns) (b .x) left k 8 (d .dx) x-is wide g) (moved (p .rows) (b .y) top r (b .rows) (d .dy) y-is high h))
+          (displaced-at bytes p d (b .x + k) (b .y + r) (moved 8 (p .columns) (b .x) left k (d .dx) x-is wide g) (moved (b .rows) (p .rows) (b .y) top r (d .dy) y-is high h))
 
 -- and the rows of a block of 8 by 8
 pub eight-square : (out block : List ℕ) (c rows : ℕ) (b : Block) (at : ℕ) → b .columns ≡ 8 → Lies b c rows → (r : ℕ) → r < b .rows
