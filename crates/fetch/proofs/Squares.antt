@@ -1,31 +1,27 @@
 -- A square of a plane, row by row; what an accepted fetch knows; and that the square of biased coordinates is that of the definition. Assumes nothing.
 use native.Mathlib.Omega.{arith}
-use native.Mathlib.Nat.{mul-le-mul_right, mul-add-div_right, mul-add-mod_self_right, div-eq_of_lt, mod-eq_of_lt, add-mul}
-use mathlib.Core.Bool.{Bool, true, false, ◌||◌}
-use mathlib.Core.List.{List, [], ◌∷◌}
+use native.Mathlib.Nat.{mul-le-mul_right, mul-add-div_right, mul-add-mod_self_right, div-eq_of_lt, mod-eq_of_lt}
+use mathlib.Core.Bool.{false}
+use mathlib.Core.List.{List}
 use mathlib.Core.Path.{◌≡◌, refl, sym, ap, ◌∙◌}
 use Prim.Native.Nat.{ℕ, suc, ◌+◌, ◌-◌, ◌*◌, ◌/◌, ◌%◌, ◌≤◌, ◌<◌, min}
 use borrow.Author.Tests.{ltb-false, eqb-false}
 use lib.Dec.{ltb, eqb}
 use lib.ListN.{length, get_or, replicate}
 use lib.IntN.{ℤ, pos, ◌+ℤ◌, ◌-ℤ◌}
-use types.Run.{OneOf, miss}
-use denote.Enum.Declared.{tag_of}
 use mir.Syntax.{w16}
 use mir.Val.{SFits}
 use Rattle.laws.specs.Signed.{above, below}
-use Rattle.laws.proofs.Signed.{range, floor, Less, less_of, less-pos, less-sum, less_diff, above-less}
+use Rattle.laws.proofs.Signed.{range, floor, less_of, less-pos, less-sum, less_diff, above-less}
 use Rattle.laws.specs.Tabulate.{tabulate}
-use Rattle.laws.specs.Internal.{Filling}
-use Rattle.laws.proofs.Tabulate.{tabulate-same, fill_at, fill_turn}
+use Rattle.laws.proofs.Tabulate.{tabulate-same}
 use Rattle.laws.specs.Outcome.{Outcome, refused, accepted, Line, first_of, after}
 use Rattle.laws.proofs.Outcome.{accepted-same, never, skipped, or_none}
 use Rattle.prediction.specs.declared.motion_vector.Mv.{Mv}
 use Rattle.fetch.specs.declared.FetchAnswer.{FetchAnswer}
 use Rattle.fetch.specs.declared.FetchAnswer.TheVariants.{Fetched, BadSize, ShortPlane, BadOrigin}
-use Rattle.fetch.specs.contracts.FetchAnswer.{the_type}
 use Rattle.prediction.specs.Vector.{whole_of}
-use Rattle.prediction.specs.Plane.{Plane, luma_plane, sample_at, nearest_in}
+use Rattle.prediction.specs.Plane.{Plane, luma_plane, sample_at}
 use Rattle.prediction.specs.Prediction.{square_of, offset_by}
 use Rattle.prediction.specs.Refusals.{bad_side, block_of}
 use Rattle.fetch.specs.Refusals.{fetch_lines, fetch_outcome, FetchIs, FillIs}
@@ -148,13 +144,13 @@ unchanged (refused k v) old = refl
 unchanged (accepted b) old = refl
 
 module _ (lines : List Line) (a : FetchAnswer) (b : List ℕ) (decides : Decides lines a) where
-  refused_alike : (o : FetchAnswer) → OneOf (1 ∷ 2 ∷ 3 ∷ []) (tag_of the_type o) → (old : List ℕ) → fetch_outcome o old ≡ fetch_outcome o b
-  refused_alike Fetched k old = absurd (miss (1 ∷ 2 ∷ 3 ∷ []) 0 tt k)
+  refused_alike : (o : FetchAnswer) → (o ≡ Fetched → ⊥) → (old : List ℕ) → fetch_outcome o old ≡ fetch_outcome o b
+  refused_alike Fetched k old = absurd (k refl)
   refused_alike BadSize k old = refl
   refused_alike ShortPlane k old = refl
   refused_alike BadOrigin k old = refl
 
-  pub fill_refused : (old : List ℕ) → OneOf (1 ∷ 2 ∷ 3 ∷ []) (tag_of the_type a) → FillIs (first_of lines b) a old old
+  pub fill_refused : (old : List ℕ) → (a ≡ Fetched → ⊥) → FillIs (first_of lines b) a old old
   fill_refused old k = record { outcome = refused_alike a k old ∙ decides b; kept = unchanged (first_of lines b) old }
 
   pub fetch_legal : a ≡ Fetched → first_of lines b ≡ accepted b

@@ -1,4 +1,6 @@
 // The luma fetches: a macroblock, or its halo, from a reference plane whose edge samples repeat.
+#![tactic(auto)]
+
 ghost use Rattle.std.specs.Prelude.{◌≡◌, true, ◌||◌, ◌+◌, ◌-◌, ◌*◌, ◌≤◌, ◌<◌, min, ltb, length, get_or};
 ghost use Rattle.laws.specs.Signed.{above, below};
 ghost use Rattle.laws.specs.Tabulate.{tabulate};
@@ -13,7 +15,7 @@ use prediction::motion_comp::whole_offset;
 use prediction::motion_vector::Mv;
 
 // A fetched block, or why a fetch is refused.
-#[derive(Drop)]
+#[derive(Clone, Copy)]
 pub enum FetchAnswer {
     Fetched,
     BadSize,
@@ -22,14 +24,14 @@ pub enum FetchAnswer {
 }
 
 // A macroblock beside the answer: all zeros with a refusal.
-#[derive(Drop)]
+#[derive(Clone, Copy)]
 pub struct FetchedMb {
     pub answer: FetchAnswer,
     pub block: [u8; 256],
 }
 
 // A halo beside the answer: all zeros with a refusal.
-#[derive(Drop)]
+#[derive(Clone, Copy)]
 pub struct FetchedHalo {
     pub answer: FetchAnswer,
     pub halo: [u8; 441],

@@ -43,7 +43,7 @@ pub fn fraction(v: i16) -> u32
 }
 
 // Which rows a frame uses.
-#[derive(Drop)]
+#[derive(Clone, Copy)]
 pub enum FilterSet {
     Sixtap,
     Bilinear,

@@ -1,5 +1,4 @@
 -- `abs_diff` meets its contract: of the difference and of its opposite it keeps what is not below 0. Assumes nothing.
-use borrow.Author.Rules.{rules}
 use mathlib.Core.Path.{◌≡◌, ap}
 use Prim.Native.Nat.{ℕ, ◌<◌}
 use native.Mathlib.Omega.{arith}
@@ -12,8 +11,7 @@ use mir.Facts.{to_z-of_z, to_z_pos}
 use Rattle.laws.proofs.Signed.{diff, sign_of}
 use Rattle.prediction.specs.Samples.{distance}
 use Rattle.prediction.proofs.Cells.{kept, held_sign, held-factor, held_kept}
-use Rattle.prediction.proofs.inverse_transform.abs_diff.Statement.{statement}
-use Rattle.prediction.proofs.inverse_transform.abs_diff.Tie as tie
+use Rattle.prediction.proofs.inverse_transform.abs_diff.Goals as goal
 
 -- the difference, its opposite, and what is kept of the two
 abbrev less : ℕ → ℕ → ℤ
@@ -54,58 +52,47 @@ module _ (a b : ℕ) (ha : a < 256) (hb : b < 256) where
   held-e : to_z w32 (of_z w32 (opposite a b)) ≡ opposite a b
   held-e = to_z-of_z fits-e
 
-cast-d : tie.Need-overflow-cast-d
-cast-d c = search rules
-
-cast-d-2 : tie.Need-overflow-cast-d-2
-cast-d-2 c = search rules
-
-sub-d : tie.Need-overflow-sub-d
-sub-d c =
+pub overflow_sub-d : goal.overflow_sub-d
+overflow_sub-d c =
     let h = c.ranges.a.fits in let k = c.ranges.b.fits in
     simp (held-byte _ h, held-byte _ k) (fits-d _ _ h k)
 
-sub-e : tie.Need-overflow-sub-e
-sub-e c =
+pub overflow_sub-e : goal.overflow_sub-e
+overflow_sub-e c =
     let h = c.ranges.a.fits in let k = c.ranges.b.fits in
     simp (held-d _ _ h k) (fits-e _ _ h k)
 
-add-result : tie.Need-overflow-add-result
-add-result c =
+pub overflow_add-result : goal.overflow_add-result
+overflow_add-result c =
     let h = c.ranges.a.fits in let k = c.ranges.b.fits in let f = fits-d _ _ h k in
     simp (held-d _ _ h k, held_sign f) (sign_of _ f).fits_one
 
-mul-result : tie.Need-overflow-mul-result
-mul-result c =
+pub overflow_mul-result : goal.overflow_mul-result
+overflow_mul-result c =
     let h = c.ranges.a.fits in let k = c.ranges.b.fits in let f = fits-d _ _ h k in
     simp (held-d _ _ h k, held-factor f) (sign_of _ f).fits_kept
 
-add-result-2 : tie.Need-overflow-add-result-2
-add-result-2 c =
+pub overflow_add-result-2 : goal.overflow_add-result-2
+overflow_add-result-2 c =
     let h = c.ranges.a.fits in let k = c.ranges.b.fits in let g = fits-e _ _ h k in
     simp (held-d _ _ h k, held-e _ _ h k, held_sign g) (sign_of _ g).fits_one
 
-mul-result-2 : tie.Need-overflow-mul-result-2
-mul-result-2 c =
+pub overflow_mul-result-2 : goal.overflow_mul-result-2
+overflow_mul-result-2 c =
     let h = c.ranges.a.fits in let k = c.ranges.b.fits in let g = fits-e _ _ h k in
     simp (held-d _ _ h k, held-e _ _ h k, held-factor g) (sign_of _ g).fits_kept
 
-add-result-3 : tie.Need-overflow-add-result-3
-add-result-3 c =
+pub overflow_add-result-3 : goal.overflow_add-result-3
+overflow_add-result-3 c =
     let h = c.ranges.a.fits in let k = c.ranges.b.fits in let f = fits-d _ _ h k in let g = fits-e _ _ h k in
     simp (held-d _ _ h k, held-e _ _ h k, held_kept f, held_kept g) (fits_both _ _ h k)
 
-cast-result : tie.Need-overflow-cast-result
-cast-result c =
+pub overflow_cast-result : goal.overflow_cast-result
+overflow_cast-result c =
     let h = c.ranges.a.fits in let k = c.ranges.b.fits in let f = fits-d _ _ h k in let g = fits-e _ _ h k in
     simp (held-d _ _ h k, held-e _ _ h k, held_kept f, held_kept g, to_z-of_z (fits_both _ _ h k)) (byte _ _ h k)
 
-returns : tie.Need-returns
+pub returns : goal.returns
 returns c =
     let h = c.ranges.a.fits in let k = c.ranges.b.fits in let f = fits-d _ _ h k in let g = fits-e _ _ h k in
     simp (held-d _ _ h k, held-e _ _ h k, held_kept f, held_kept g, to_z-of_z (fits_both _ _ h k)) (ap nat_abs (both_is _ _ h k))
-
-pub abs-diff-spec : {M : Type 1} → statement M
-abs-diff-spec =
-    tie.close
-    (tie.spec cast-d cast-d-2 sub-d sub-e add-result mul-result add-result-2 mul-result-2 add-result-3 cast-result returns)

@@ -12,8 +12,7 @@ use Rattle.laws.specs.Signed.{above}
 use Rattle.laws.proofs.Signed.{same, diff, range, sign_of}
 use Rattle.prediction.specs.Samples.{clamped255}
 use Rattle.prediction.proofs.Cells.{kept, held_sign, held-factor, held_kept}
-use Rattle.prediction.proofs.inverse_transform.clamp255.Statement.{statement}
-use Rattle.prediction.proofs.inverse_transform.clamp255.Tie as tie
+use Rattle.prediction.proofs.inverse_transform.clamp255.Goals as goal
 
 -- what v, or 0 where v is below 0, leaves of 255; and 255 less that, or less 0 where that is below 0
 abbrev room : ℤ → ℤ
@@ -38,41 +37,36 @@ module _ (v : ℤ) (f : SFits w32 v) where
   byte : T (non_neg (last v)) × Fits w8 (nat_abs (last v))
   byte = rw last_is (tt, record { fits = omega arith })
 
-add_kept : tie.Need-overflow-add-kept
-add_kept c = let f = c.ranges.v in simp (to_z-of_z f, held_sign f) (sign_of _ f).fits_one
+pub overflow_add-kept : goal.overflow_add-kept
+overflow_add-kept c = let f = c.ranges.v in simp (to_z-of_z f, held_sign f) (sign_of _ f).fits_one
 
-mul-kept : tie.Need-overflow-mul-kept
-mul-kept c = let f = c.ranges.v in simp (to_z-of_z f, held-factor f) (sign_of _ f).fits_kept
+pub overflow_mul-kept : goal.overflow_mul-kept
+overflow_mul-kept c = let f = c.ranges.v in simp (to_z-of_z f, held-factor f) (sign_of _ f).fits_kept
 
-sub-room : tie.Need-overflow-sub-room
-sub-room c = let f = c.ranges.v in simp (to_z-of_z f, held_kept f) (fits-room _ f)
+pub overflow_sub-room : goal.overflow_sub-room
+overflow_sub-room c = let f = c.ranges.v in simp (to_z-of_z f, held_kept f) (fits-room _ f)
 
-add-result : tie.Need-overflow-add-result
-add-result c =
+pub overflow_add-result : goal.overflow_add-result
+overflow_add-result c =
     let f = c.ranges.v in let g = fits-room _ f in
     simp (to_z-of_z f, held_kept f, to_z-of_z g, held_sign g) (sign_of _ g).fits_one
 
-mul-result : tie.Need-overflow-mul-result
-mul-result c =
+pub overflow_mul-result : goal.overflow_mul-result
+overflow_mul-result c =
     let f = c.ranges.v in let g = fits-room _ f in
     simp (to_z-of_z f, held_kept f, to_z-of_z g, held-factor g) (sign_of _ g).fits_kept
 
-sub-result : tie.Need-overflow-sub-result
-sub-result c =
+pub overflow_sub-result : goal.overflow_sub-result
+overflow_sub-result c =
     let f = c.ranges.v in let g = fits-room _ f in
     simp (to_z-of_z f, held_kept f, to_z-of_z g, held_kept g) (fits_last _ f)
 
-cast-result : tie.Need-overflow-cast-result
-cast-result c =
+pub overflow_cast-result : goal.overflow_cast-result
+overflow_cast-result c =
     let f = c.ranges.v in let g = fits-room _ f in
     simp (to_z-of_z f, held_kept f, to_z-of_z g, held_kept g, to_z-of_z (fits_last _ f)) (byte _ f)
 
-returns : tie.Need-returns
+pub returns : goal.returns
 returns c =
     let f = c.ranges.v in let g = fits-room _ f in
     simp (to_z-of_z f, held_kept f, to_z-of_z g, held_kept g, to_z-of_z (fits_last _ f)) (ap nat_abs (last_is _ f))
-
-pub clamp255-spec : {M : Type 1} → statement M
-clamp255-spec =
-    tie.close
-    (tie.spec add_kept mul-kept sub-room add-result mul-result sub-result cast-result returns)

@@ -1,7 +1,4 @@
 -- `moved` meets its contract. Assumes nothing.
-use borrow.Author.Rules.{rules}
-use Rattle.fetch.proofs.moved.Statement.{statement}
-use Rattle.fetch.proofs.moved.Tie as tie
 use native.Mathlib.Omega.{arith}
 use Prim.Native.Nat.{ℕ, ◌+◌, ◌-◌, ◌<◌}
 use mathlib.Core.Path.{◌≡◌, ◌∙◌, ap}
@@ -14,6 +11,7 @@ use mir.Facts.{to_z-of_z}
 use Rattle.laws.specs.Signed.{above, below, floor_div}
 use Rattle.laws.proofs.Signed.{signs, range, sum, floor}
 use Rattle.prediction.specs.Vector.{whole_of}
+use Rattle.fetch.proofs.moved.Goals as goal
 
 module _ (v : ℤ) (f : SFits w16 v) where
   whole : SFits w32 (floor_div v 8)
@@ -31,29 +29,27 @@ module _ (v : ℤ) (f : SFits w16 v) where
   raised_small : nat_abs (floor_div v 8 +ℤ pos 4096) < 8192
   raised_small = omega (arith, range f, (floor v 7).up, (floor v 7).dn, sum (floor_div v 8) (pos 4096))
 
-module _ (c : tie.After-whole-offset) where
-  f : SFits w16 c.before.args.v
-  f = c.before.ranges.v
+pub overflow_add-result : goal.overflow_add-result
+overflow_add-result c =
+    let f : SFits w16 c.args.v = c.ranges.v in
+    let is : c.whole_offset.result ≡ floor_div c.args.v 8 = c.whole_offset.ensures ∙ ap whole_of (to_z-of_z f) in
+    simp (is, to_z-of_z (whole _ f)) (raised _ f)
 
-  is : c.whole-offset.result ≡ floor_div c.before.args.v 8
-  is = c.whole-offset.ensures ∙ ap whole_of (to_z-of_z f)
+pub overflow_cast-result : goal.overflow_cast-result
+overflow_cast-result c =
+    let f : SFits w16 c.args.v = c.ranges.v in
+    let is : c.whole_offset.result ≡ floor_div c.args.v 8 = c.whole_offset.ensures ∙ ap whole_of (to_z-of_z f) in
+    simp (is, to_z-of_z (whole _ f), to_z-of_z (raised _ f)) (raised_unsigned _ f)
 
-whole-offset-requires : tie.Need-whole-offset-requires
-whole-offset-requires c κs = search rules
+pub overflow_add-result-2 : goal.overflow_add-result-2
+overflow_add-result-2 c =
+    let f : SFits w16 c.args.v = c.ranges.v in
+    let is : c.whole_offset.result ≡ floor_div c.args.v 8 = c.whole_offset.ensures ∙ ap whole_of (to_z-of_z f) in
+    simp (is, to_z-of_z (whole _ f), to_z-of_z (raised _ f)) (omega (arith, raised_small _ f))
 
-add-result : tie.Need-overflow-add-result
-add-result c = simp (is c, to_z-of_z (whole _ (f c))) (raised _ (f c))
-
-cast-result : tie.Need-overflow-cast-result
-cast-result c = simp (is c, to_z-of_z (whole _ (f c)), to_z-of_z (raised _ (f c))) (raised_unsigned _ (f c))
-
-add-result-2 : tie.Need-overflow-add-result-2
-add-result-2 c = simp (is c, to_z-of_z (whole _ (f c)), to_z-of_z (raised _ (f c))) (omega (arith, raised_small _ (f c)))
-
-returns : tie.Need-returns
+pub returns : goal.returns
 returns c =
-    simp (is c, to_z-of_z (whole _ (f c)), to_z-of_z (raised _ (f c)))
-    (ap (λ (n : ℕ). c.before.args.x + n) (raised_is _ (f c)), omega (arith, raised_small _ (f c)))
-
-pub moved-spec : {M : Type 1} → statement M
-moved-spec = tie.close (tie.spec whole-offset-requires add-result cast-result add-result-2 returns)
+    let f : SFits w16 c.args.v = c.ranges.v in
+    let is : c.whole_offset.result ≡ floor_div c.args.v 8 = c.whole_offset.ensures ∙ ap whole_of (to_z-of_z f) in
+    simp (is, to_z-of_z (whole _ f), to_z-of_z (raised _ f))
+    (ap (λ (n : ℕ). c.args.x + n) (raised_is _ f), omega (arith, raised_small _ f))
