@@ -1,5 +1,7 @@
 // The bilinear filter of a macroblock: RFC 6386 section 18.3. The horizontal pass makes the rows 2 to 18 of the halo's 21: with two taps
 // the vertical one reads no others.
+#![tactic(auto)]
+
 ghost use Rattle.std.specs.Prelude.{◌≡◌, ◌+◌, ◌*◌, ◌≤◌, ◌<◌, min, length, get_or};
 ghost use Rattle.laws.specs.Outcome.{first_of};
 ghost use Rattle.laws.specs.Tabulate.{tabulate};

@@ -1,4 +1,6 @@
 // The six-tap filter of a macroblock: RFC 6386 section 18.3.
+#![tactic(auto)]
+
 ghost use Rattle.std.specs.Prelude.{◌≡◌, ◌+◌, ◌-◌, ◌*◌, ◌/◌, ◌≤◌, ◌<◌, min, length, get_or};
 ghost use Rattle.laws.specs.Signed.{above, below};
 ghost use Rattle.laws.specs.Outcome.{first_of};
@@ -27,7 +29,7 @@ pub const SIXTAP_FILTERS: [[i32; 6]; 8] = [
 ];
 
 // The sizes of a row of taps; the second and the fifth are taken away, the others added.
-#[derive(Drop)]
+#[derive(Clone, Copy)]
 pub(crate) struct Taps {
     pub a: u16,
     pub b: u16,
@@ -108,7 +110,7 @@ fn filter(t: Taps, support: [u8; 6]) -> u8
 }
 
 // A filtered sample, or that the selector exceeds 7.
-#[derive(Drop)]
+#[derive(Clone, Copy)]
 pub enum Interpolated {
     Sample(u8),
     BadSelector,

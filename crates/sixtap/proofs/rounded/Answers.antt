@@ -1,6 +1,5 @@
 -- `rounded` meets its contract: 8192 is added before the division and taken away within it, and both ends are left to the clamp.
 -- Assumes nothing.
-use borrow.Author.Rules.{rules}
 use mathlib.Core.Path.{◌≡◌, refl, ◌∙◌}
 use Prim.Native.Nat.{ℕ, ◌+◌, ◌-◌, ◌/◌, ◌≤◌, min}
 use native.Mathlib.Omega.{arith}
@@ -11,8 +10,7 @@ use mir.Val.{SFits, to_z, of_z}
 use mir.Facts.{to_z-of_z, to_z_pos}
 use Rattle.laws.specs.Signed.{above, below, minus}
 use Rattle.laws.proofs.Signed.{diff, floor, floor_shift, fits}
-use Rattle.sixtap.proofs.rounded.Statement.{statement}
-use Rattle.sixtap.proofs.rounded.Tie as tie
+use Rattle.sixtap.proofs.rounded.Goals as goal
 
 -- half of the difference plus 64 and 8192; that less 4096; and a 64th of this rounded down, the number that is clamped
 abbrev half : ℕ → ℕ → ℕ
@@ -63,34 +61,17 @@ module _ (p n : ℕ) (hp : p ≤ 40800) (hn : n ≤ 8160) where
   clamped : min (above (unclamped p n)) 255 ≡ min ((p + 64 - n) / 128) 255
   clamped = omega (arith, up)
 
-add_half : tie.Need-overflow-add-half
-add_half c = search rules
-
-sub-half : tie.Need-overflow-sub-half
-sub-half c = search rules
-
-cast-clamp255 : tie.Need-overflow-cast-clamp255
-cast-clamp255 c = search rules
-
-sub-clamp255 : tie.Need-overflow-sub-clamp255
-sub-clamp255 c =
+pub overflow_sub-half-2 : goal.overflow_sub-half-2
+overflow_sub-half-2 c =
     let h = c.requires.0 in let k = c.requires.1 in
     simp (held-half _ _ h k) (fits_moved _ _ h k)
 
-cast-clamp255-2 : tie.Need-overflow-cast-clamp255-2
-cast-clamp255-2 c =
+pub overflow_cast-half-2 : goal.overflow_cast-half-2
+overflow_cast-half-2 c =
     let h = c.requires.0 in let k = c.requires.1 in
     simp (held_moved _ _ h k, to_z-of_z (fits_16 _ _ h k)) (fits_32 _ _ h k)
 
-clamp255-requires : tie.Need-clamp255-requires
-clamp255-requires c κs = search rules
-
-returns : tie.Need-returns
+pub returns : goal.returns
 returns c =
-    let h = c.before.requires.0 in let k = c.before.requires.1 in
+    let h = c.requires.0 in let k = c.requires.1 in
     (simp (held_moved _ _ h k, to_z-of_z (fits_16 _ _ h k), to_z-of_z (fits_32 _ _ h k)) at c.clamp255.ensures) ∙ clamped _ _ h k
-
-pub rounded-spec : {M : Type 1} → statement M
-rounded-spec =
-    tie.close
-    (tie.spec add_half sub-half cast-clamp255 sub-clamp255 cast-clamp255-2 clamp255-requires returns)
