@@ -6,8 +6,6 @@ use mathlib.Core.List.{List, [], ◌∷◌}
 use Prim.Native.Nat.{ℕ, ◌+◌, ◌-◌, ◌*◌, ◌≤◌, ◌<◌}
 use native.Mathlib.Numerals.{add-one}
 use native.Mathlib.Omega.{arith}
-use types.Run.{OneOf, miss}
-use denote.Enum.Declared.{tag_of}
 use Rattle.laws.specs.Outcome.{Outcome, refused, accepted, Line, line, first_of}
 use Rattle.laws.proofs.Outcome.{never, refused_alike, refused-first, accepted-first}
 use Rattle.prediction.specs.Plane.{Plane}
@@ -18,7 +16,6 @@ use Rattle.search.specs.declared.picture.PictureAnswer.TheVariants.{Searched, Ba
 use Rattle.search.specs.declared.allowance.PictureWork.{PictureWork}
 use Rattle.search.specs.Picture.{mb_count, picture_at, Lists, picture_lines, picture_expected, picture_outcome}
 use Rattle.search.specs.Allowance.{grant_of, rounds_for, remains, grant_at, spent, picture_made, allowed_at, work_of, low_allowance, allowance_expected, AllowanceIs}
-use Rattle.search.specs.contracts.picture.PictureAnswer.{the_type}
 use Rattle.search.proofs.Sharing.{grant_19, made-remains, account}
 use Rattle.search.proofs.Allowances.{picture_keeps}
 use Rattle.picture_search.specs.Internal.{Filled, RefusedAs}
@@ -107,9 +104,9 @@ module _ (version allowance : ℕ) (plane source : Plane) (l : Lists) where
       → AllowanceIs version allowance plane source p l l
   refusal_is p k v e f = rw f (kept_at _ (mb_count plane) at l k v (sym (refused-first (picture_lines version plane source l) only_30 (mb_count plane) work k v (sym e))))
 
-  pub refused_is : (a : PictureAnswer) (p : Outcome PictureWork) → OneOf (1 ∷ 2 ∷ 3 ∷ 4 ∷ 5 ∷ []) (tag_of the_type a)
+  pub refused_is : (a : PictureAnswer) (p : Outcome PictureWork) → ((m : ℕ) → a ≡ Searched m → ⊥)
       → picture_outcome a ≡ picture_expected version plane source l → RefusedAs (picture_outcome a) p → AllowanceIs version allowance plane source p l l
-  refused_is (Searched m) p k e r = absurd (miss (1 ∷ 2 ∷ 3 ∷ 4 ∷ 5 ∷ []) 0 tt k)
+  refused_is (Searched m) p k e r = absurd (k m refl)
   refused_is BadSize p k e r = refusal_is p 8 [] e (r 8 [] refl)
   refused_is ShortPlane p k e r = refusal_is p 9 [] e (r 9 [] refl)
   refused_is ShortSource p k e r = refusal_is p 14 [] e (r 14 [] refl)

@@ -1,9 +1,7 @@
 -- From the checks' answer and what the loop leaves to what the call promises. Assumes nothing.
-use mathlib.Core.Path.{◌≡◌, sym, ap, ◌∙◌}
-use mathlib.Core.List.{List, [], ◌∷◌}
+use mathlib.Core.Path.{◌≡◌, refl, sym, ap, ◌∙◌}
+use mathlib.Core.List.{List, []}
 use Prim.Native.Nat.{ℕ, ◌≤◌}
-use types.Run.{OneOf, miss}
-use denote.Enum.Declared.{tag_of}
 use borrow.Author.Tests.{ltb-false}
 use lib.ListN.{length}
 use Rattle.laws.specs.Front.{front}
@@ -16,7 +14,6 @@ use Rattle.search.specs.declared.picture.SearchedMb.{SearchedMb}
 use Rattle.search.specs.declared.picture.PictureAnswer.{PictureAnswer}
 use Rattle.search.specs.declared.picture.PictureAnswer.TheVariants.{Searched, BadSize, ShortPlane, ShortSource, ShortList, BadVersion}
 use Rattle.search.specs.Picture.{mb_count, picture_at, Lists, picture_lines, picture_expected, picture_outcome, PictureIs, PictureSearched}
-use Rattle.search.specs.contracts.picture.PictureAnswer.{the_type}
 use Rattle.picture_search.specs.Internal.{Legal, Filled}
 
 -- where the outcome is known and the loop has filled the fronts, the lists are as promised
@@ -67,9 +64,9 @@ kept_at expected n at l k v e =
       sads = sym (after-refused l.sads _ (sym e));
     }
 
-pub kept_is : (expected : Outcome ℕ) (n : ℕ) (at : ℕ → SearchedMb) (l : Lists) (a : PictureAnswer) → OneOf (1 ∷ 2 ∷ 3 ∷ 4 ∷ 5 ∷ []) (tag_of the_type a)
+pub kept_is : (expected : Outcome ℕ) (n : ℕ) (at : ℕ → SearchedMb) (l : Lists) (a : PictureAnswer) → ((m : ℕ) → a ≡ Searched m → ⊥)
     → picture_outcome a ≡ expected → PictureIs expected n at (picture_outcome a) l l
-kept_is expected n at l (Searched m) k e = absurd (miss (1 ∷ 2 ∷ 3 ∷ 4 ∷ 5 ∷ []) 0 tt k)
+kept_is expected n at l (Searched m) k e = absurd (k m refl)
 kept_is expected n at l BadSize k e = kept_at expected n at l 8 [] e
 kept_is expected n at l ShortPlane k e = kept_at expected n at l 9 [] e
 kept_is expected n at l ShortSource k e = kept_at expected n at l 14 [] e

@@ -1,4 +1,6 @@
 // The luma motion search of a whole picture, by the public calls for one macroblock.
+#![tactic(auto)]
+
 pub mod allowance;
 
 ghost use Rattle.std.specs.Prelude.{◌≡◌, ◌||◌, ◌*◌, ◌/◌, ◌+◌, ◌≤◌, ltb, length};

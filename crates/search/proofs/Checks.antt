@@ -1,10 +1,8 @@
 -- The checks' answer, carried to a measure: what they refuse is refused, and where they find nothing the measure counts. Assumes nothing.
-use mathlib.Core.Path.{◌≡◌, sym, ap, ◌∙◌}
-use mathlib.Core.List.{List, [], ◌∷◌}
+use mathlib.Core.Path.{◌≡◌, refl, sym, ap, ◌∙◌}
+use mathlib.Core.List.{List, []}
 use Prim.Native.Nat.{ℕ}
 use lib.ListN.{length}
-use types.Run.{OneOf, miss}
-use denote.Enum.Declared.{tag_of}
 use Rattle.laws.specs.Outcome.{accepted, Line, first_of}
 use Rattle.laws.proofs.Outcome.{Skipped, skipped}
 use Rattle.prediction.specs.declared.motion_vector.Mv.{Mv}
@@ -13,13 +11,12 @@ use Rattle.search.specs.declared.SadAnswer.{SadAnswer}
 use Rattle.search.specs.declared.SadAnswer.TheVariants as sad
 use Rattle.search.specs.Refusals.{sad_outcome, grid_lines, off_grid}
 use Rattle.search.specs.Internal.{plane_of, Ready, Copied}
-use Rattle.search.specs.contracts.SadAnswer.{the_type}
 use Rattle.search.proofs.Accepted.{also_refused, also_accepted}
 use Rattle.search.proofs.Grid.{measured-whole, whole_copied}
 
-pub still-refused : (ls : List Line) (x : ℕ) (a : SadAnswer) → OneOf (1 ∷ 2 ∷ 3 ∷ 4 ∷ 5 ∷ 6 ∷ []) (tag_of the_type a) → sad_outcome a ≡ first_of ls 0
+pub still-refused : (ls : List Line) (x : ℕ) (a : SadAnswer) → ((n : ℕ) → a ≡ sad.Sad n → ⊥) → sad_outcome a ≡ first_of ls 0
     → sad_outcome a ≡ first_of ls x
-still-refused ls x (sad.Sad n) k e = absurd (miss (1 ∷ 2 ∷ 3 ∷ 4 ∷ 5 ∷ 6 ∷ []) 0 tt k)
+still-refused ls x (sad.Sad n) k e = absurd (k n refl)
 still-refused ls x sad.BadSize k e = also_refused ls 0 x 8 [] (sym e)
 still-refused ls x sad.ShortPlane k e = also_refused ls 0 x 9 [] (sym e)
 still-refused ls x sad.BadMacroblock k e = also_refused ls 0 x 10 [] (sym e)

@@ -12,7 +12,7 @@ use Rattle.laws.specs.Signed.{eq_z}
 use Rattle.laws.proofs.Signed.{eq_z-true, eq_z_self}
 use Rattle.prediction.specs.declared.motion_vector.Mv.{Mv}
 use Rattle.search.specs.declared.DiamondResult.{DiamondResult}
-use Rattle.search.specs.Search.{gridded, same_mv, stepped, measured, tried, round_of, descend, start_at, diamond}
+use Rattle.search.specs.Search.{gridded, same_mv, stepped, tried, round_of, descend, start_at, diamond}
 use Rattle.search.specs.Internal.{Good}
 use Rattle.search.proofs.Grid.{whole}
 

@@ -186,7 +186,7 @@ refused_keeps expected outcome n at old held k v is e =
 -- every entry is a vector in range
 pub entry-inside : (set : FilterRows) (plane source : Plane) (limit column row : ℕ) → out_of_range (searched_at set plane source limit column row).mv ≡ false
 unfolding searched_mb
-entry-inside set plane source limit column row = last-inside _ _ limit
+entry-inside set _ _ limit column row = last-inside _ _ limit
 
 -- and a SAD of at most 65280, and no macroblock takes more than 261143 SADs
 module _ (plane source : Plane) (limit column row : ℕ) (bytes : (k : ℕ) → get_or source.bytes k 0 < 256) where

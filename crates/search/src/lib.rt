@@ -1,12 +1,14 @@
 // What the definitions of the SADs and of the luma motion searches speak of; the code that is held to them stands in the
 // crate `motion_search`.
+#![tactic(auto)]
+
 pub mod allowance;
 pub mod picture;
 
 use prediction::motion_vector::Mv;
 
 // The numbers of a reference plane and of one macroblock.
-#[derive(Drop)]
+#[derive(Clone, Copy)]
 pub struct Site {
     pub stride: usize,
     pub width: usize,
@@ -16,14 +18,14 @@ pub struct Site {
 }
 
 // A vector and its SAD.
-#[derive(Drop)]
+#[derive(Clone, Copy)]
 pub struct SearchResult {
     pub mv: Mv,
     pub sad: u32,
 }
 
 // A vector, its SAD, the SADs computed (the first included) and the rounds made (the last without a move included).
-#[derive(Drop)]
+#[derive(Clone, Copy)]
 pub struct DiamondResult {
     pub mv: Mv,
     pub sad: u32,
@@ -31,7 +33,7 @@ pub struct DiamondResult {
     pub rounds: u32,
 }
 
-#[derive(Drop)]
+#[derive(Clone, Copy)]
 pub enum SadAnswer {
     Sad(u32),
     BadSize,
@@ -42,7 +44,7 @@ pub enum SadAnswer {
     BadVersion,
 }
 
-#[derive(Drop)]
+#[derive(Clone, Copy)]
 pub enum SearchAnswer {
     Found(SearchResult),
     BadSize,
@@ -53,7 +55,7 @@ pub enum SearchAnswer {
     BadVersion,
 }
 
-#[derive(Drop)]
+#[derive(Clone, Copy)]
 pub enum DiamondAnswer {
     Found(DiamondResult),
     BadSize,

@@ -2,7 +2,7 @@
 use prediction::motion_vector::Mv;
 
 // A macroblock's last vector, its SAD, and the SADs computed on the way.
-#[derive(Drop)]
+#[derive(Clone, Copy)]
 pub struct SearchedMb {
     pub mv: Mv,
     pub sad: u32,
@@ -10,7 +10,7 @@ pub struct SearchedMb {
 }
 
 // The macroblocks searched, or why the picture is refused.
-#[derive(Drop)]
+#[derive(Clone, Copy)]
 pub enum PictureAnswer {
     Searched(u32),
     BadSize,
