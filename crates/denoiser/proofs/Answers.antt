@@ -2,31 +2,27 @@
 use mathlib.Core.Path.{◌≡◌, refl, sym, ap, ◌∙◌}
 use mathlib.Core.Bool.{Bool, true, false, cond}
 use mathlib.Core.List.{List, [], ◌∷◌}
-use Prim.Native.Nat.{ℕ, zero, suc, ◌+◌, ◌*◌, ◌/◌, ◌≤◌, ◌<◌}
+use Prim.Native.Nat.{ℕ, zero, suc, ◌<◌}
 use native.Mathlib.Omega.{arith}
-use lib.ListN.{length, get_or}
+use lib.ListN.{get_or}
 use Rattle.laws.specs.Outcome.{Outcome, refused, accepted, Line, first_of, after}
 use Rattle.laws.proofs.Outcome as laws
-use Rattle.prediction.specs.Plane.{bytes_needed}
-use Rattle.window.specs.declared.Frame.{Frame}
 use Rattle.window.specs.declared.Size.{Size}
 use Rattle.window.specs.declared.Refusal.{Refusal}
 use Rattle.window.specs.declared.Refusal.TheVariants.{NoCentre, TooManyFrames, BadSize, OtherSize, CapTooHigh, PlaneUnfit, ShortOutput, ShortWorking}
 use Rattle.window.specs.declared.Checked.{Checked}
 use Rattle.window.specs.declared.Checked.TheVariants as checked
-use Rattle.window.specs.Layout.{half, side_of, packed_size}
-use Rattle.window.specs.Frames.{frame_at, frame_count, plane_of}
-use Rattle.window.specs.Refusals.{Given, build_lines, refusal_outcome, centre_of, size_of, checks, checked_outcome}
+use Rattle.window.specs.Layout.{packed_size}
+use Rattle.window.specs.Frames.{frame_at, frame_count}
+use Rattle.window.specs.Refusals.{build_lines, refusal_outcome, centre_of, checks, checked_outcome}
 use Rattle.window.proofs.Built as window
 use Rattle.denoiser.specs.declared.Built.{Built}
-use Rattle.denoiser.specs.declared.BuildAnswer.{BuildAnswer}
 use Rattle.denoiser.specs.declared.BuildAnswer.TheVariants.{Done, Refused}
-use Rattle.denoiser.specs.Window.{Scene, Rule}
 use Rattle.denoiser.specs.declared.Choice.{Choice}
 use Rattle.denoiser.specs.Chroma.{rule_of}
 use Rattle.denoiser.specs.Demand.{Held, Demand3}
-use Rattle.denoiser.specs.Build.{Request, BuildInput, given_of, scene_of, window_of, cropped, filled, built_of, samples_of, outcome_of, build_outcome, output_after, working_after, BuildBy}
-use Rattle.denoiser.specs.Internal.{Fits, Whole, Frames, Lent, Legal, Made, numbers_of}
+use Rattle.denoiser.specs.Build.{BuildInput, given_of, scene_of, window_of, cropped, built_of, samples_of, outcome_of, output_after, working_after, BuildBy}
+use Rattle.denoiser.specs.Internal.{Fits, Lent, Legal, Made, numbers_of}
 use Rattle.denoiser.proofs.Blends.{window_fair, window-byte}
 use Rattle.denoiser.proofs.Demands.{demand_3}
 

@@ -1,7 +1,7 @@
 -- A blend in slices of P entries: seeded by the packed centre, raised by every other frame, resolved. It is the window's. Assumes nothing.
 use mathlib.Core.Path.{◌≡◌, refl, sym, ap, ◌∙◌}
 use mathlib.Core.List.{List}
-use Prim.Native.Nat.{ℕ, ◌+◌, ◌*◌, ◌/◌, ◌^◌, ◌≤◌, ◌<◌}
+use Prim.Native.Nat.{ℕ, ◌+◌, ◌*◌, ◌^◌, ◌≤◌, ◌<◌}
 use native.Mathlib.Omega.{arith}
 use native.Mathlib.Decide.{dec_lt}
 use lib.IntN.{pos}
@@ -15,17 +15,17 @@ use Rattle.weights.specs.Blend.{total_weight, weighted_sum, denoised}
 use Rattle.laws.proofs.Each.{Each}
 use Rattle.window.specs.Layout.{side_of, packed_size, place_of}
 use Rattle.window.specs.Frames.{frame_at, frame_count}
-use Rattle.denoiser.specs.Window.{Scene, Window, Rule, centre_at, share_of, total_at, sum_at, denoised_at, accepted_blocks}
+use Rattle.denoiser.specs.Window.{centre_at, total_at, sum_at, denoised_at, accepted_blocks}
 use Rattle.denoiser.specs.declared.Choice.{Choice}
 use Rattle.denoiser.specs.Chroma.{chosen_sample, rule_of}
 use Rattle.denoiser.specs.Pictures.{picture_of, other_of, others_of}
-use Rattle.denoiser.specs.Build.{Request, scene_of, window_of, packed}
-use Rattle.denoiser.specs.Internal.{Room, Slack, Front, Spread, Shows, Ready, Legal, packed_picture, packed_scene, other_share, other_term, other_blocks}
+use Rattle.denoiser.specs.Build.{Request, scene_of, window_of}
+use Rattle.denoiser.specs.Internal.{Room, Front, Spread, Shows, Ready, Legal, packed_picture, packed_scene, other_share, other_term, other_blocks}
 use Rattle.denoiser.proofs.Demands.{Fair, sample-byte, total-some, total-most, sum-most}
 use Rattle.denoiser.proofs.Halves.{sample_in-byte}
 use Rattle.denoiser.proofs.Join.{Agree, share_joined, term_joined, count_joined, curve-at}
 use Rattle.denoiser.proofs.Others.{others_each, others-count}
-use Rattle.denoiser.proofs.Packs.{Found, found, place-below, shows_is}
+use Rattle.denoiser.proofs.Packs.{found, place-below}
 use Rattle.denoiser.proofs.Pictures.{picture-byte}
 use Rattle.denoiser.proofs.Planes.{packed-at}
 

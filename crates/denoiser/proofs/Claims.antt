@@ -1,11 +1,9 @@
 -- Claims of document 01 on the grid, the block search, chroma halves, acceptance and shares, each a law; how large sums and
 -- totals can be; and the claims of request 7 on caps and of request 6 on half samples. Assumes nothing.
-use mathlib.Core.Path.{◌≡◌, refl, sym, ap, ◌∙◌, fun_ext, subst, subst⁻¹}
+use mathlib.Core.Path.{◌≡◌, refl, sym, ap, ◌∙◌, fun_ext, subst}
 use mathlib.Core.Bool.{true, false}
-use mathlib.Core.List.{List, [], ◌∷◌, ◌++◌}
-use mathlib.Core.Logic.{⊎_elim}
+use mathlib.Core.List.{List}
 use Prim.Native.Nat.{ℕ, zero, suc, ◌+◌, ◌*◌, ◌/◌, ◌≤◌, ◌<◌, min}
-use native.Mathlib.Nat.{le_trans}
 use native.Mathlib.Omega.{arith}
 use borrow.Author.Tests.{lt-ltb, le-ltb}
 use lib.IntN.{ℤ, pos}
@@ -32,7 +30,7 @@ use Rattle.denoiser.specs.declared.Block.{Block}
 use Rattle.denoiser.specs.declared.Displacement.{Displacement}
 use Rattle.denoiser.specs.Grid.{grid_block, grid_side, block_in, unit_of}
 use Rattle.denoiser.specs.Search.{measured_by, block_search, displacement_in}
-use Rattle.denoiser.specs.Internal.{step_best, Reach, Short}
+use Rattle.denoiser.specs.Internal.{Short}
 use Rattle.denoiser.specs.Window.{Picture, Other, Scene, Rule, gate, centre_at, share_of, total_at, sum_at, accepted_in, accepted_blocks}
 use Rattle.denoiser.specs.Window.{Window, denoised_at, displacement_of, sad_accepted, displaced_at, arnr_rule, plain_rule}
 use Rattle.denoiser.specs.declared.Choice.{Choice}

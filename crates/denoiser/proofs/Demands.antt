@@ -1,10 +1,9 @@
 -- Demand 3 over any rule: what the filled slices say of each sample. Assumes nothing.
 use mathlib.Core.Path.{◌≡◌, refl, sym, ap, ◌∙◌}
-use mathlib.Core.List.{List, [], ◌∷◌, ◌++◌}
+use mathlib.Core.List.{List, [], ◌∷◌}
 use Prim.Native.Nat.{ℕ, ◌+◌, ◌*◌, ◌/◌, ◌≤◌, ◌<◌}
-use native.Mathlib.Nat.{le_trans}
 use native.Mathlib.Omega.{arith}
-use lib.ListN.{length, get_or, drop}
+use lib.ListN.{length}
 use Rattle.laws.specs.Sums.{sum_over}
 use Rattle.prediction.specs.Samples.{distance}
 use Rattle.weights.specs.Weights.{weight_read}
@@ -12,11 +11,11 @@ use Rattle.weights.specs.Blend.{total_weight, weighted_sum, denoised, distance_b
 use Rattle.weights.proofs.Weights.{read_most}
 use Rattle.weights.proofs.Bound.{Shared, within-bound, denoised-byte, total-limit, sum-limit}
 use Rattle.laws.proofs.Each.{Each}
-use Rattle.window.specs.Layout.{side_of, packed_size}
+use Rattle.window.specs.Layout.{side_of}
 use Rattle.denoiser.specs.Grid.{unit_of}
 use Rattle.denoiser.specs.Window.{Scene, Window, Rule, gate, centre_at, share_of, total_at, sum_at, denoised_at}
-use Rattle.denoiser.specs.Demand.{Held, SampleIs, Demand3, entry_at}
-use Rattle.denoiser.specs.Build.{packed, filled}
+use Rattle.denoiser.specs.Demand.{Held, Demand3, entry_at}
+use Rattle.denoiser.specs.Build.{filled}
 use Rattle.denoiser.proofs.Gates.{gate-most}
 use Rattle.denoiser.proofs.Packs.{packed-sample}
 

@@ -1,17 +1,17 @@
 -- Laws of `Front`, `Stored` and `Shows`: what loops that store one place after the other leave. Assumes nothing.
 use mathlib.Core.Path.{◌≡◌, refl, sym, ap, ◌∙◌}
 use mathlib.Core.List.{List}
-use Prim.Native.Nat.{ℕ, zero, suc, ◌+◌, ◌-◌, ◌*◌, ◌≤◌, ◌<◌}
+use Prim.Native.Nat.{ℕ, zero, suc, ◌+◌, ◌*◌, ◌≤◌, ◌<◌}
 use native.Mathlib.Nat.{not-suc-le-zero, mul-le-mul_right}
 use native.Mathlib.Omega.{arith}
-use native.Mathlib.Decide.{dec_lt, ℕ_discrete}
+use native.Mathlib.Decide.{ℕ_discrete}
 use lib.ListN.{length, get_or, set, length-set}
 use lib.Seq.{get_or-set_same, get_or-set_other}
-use borrow.Rule.Slice.PartMut.{put_mid, mid_of, same_len_mid}
+use borrow.Rule.Slice.PartMut.{put_mid, same_len_mid}
 use Rattle.laws.proofs.Slices.{mid_long, put_before, put_inside, put_after}
 use Rattle.window.specs.Layout.{half, side_of, place_of}
-use Rattle.denoiser.specs.Internal.{Room, Front, Stored, Shows}
-use Rattle.denoiser.proofs.Planes.{below_end, row_below}
+use Rattle.denoiser.specs.Internal.{Front, Stored, Shows}
+use Rattle.denoiser.proofs.Planes.{below_end}
 
 pub front_none : (f : ℕ → ℕ) (l : List ℕ) → Front 0 f l l
 front_none f l = record { long = refl; within = λ k h. absurd (not-suc-le-zero h); past = λ k h. refl }

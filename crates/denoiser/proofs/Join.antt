@@ -1,6 +1,6 @@
 -- What is made of a frame depends on the centre only by its samples in the planes, and on nothing but the frame, the centre, the size and the strength.
 -- This joins what the code reads, the packed copy of the centre and the lent curve, to the definitions. Assumes nothing.
-use mathlib.Core.Path.{◌≡◌, refl, sym, ap, ◌∙◌, fun_ext}
+use mathlib.Core.Path.{◌≡◌, sym, ap, ◌∙◌, fun_ext}
 use mathlib.Core.Bool.{Bool}
 use mathlib.Core.List.{List}
 use Prim.Native.Nat.{ℕ, zero, suc, ◌+◌, ◌*◌, ◌/◌, ◌^◌, ◌≤◌, ◌<◌, min}
@@ -8,14 +8,14 @@ use native.Mathlib.Nat.{mul-le-mul, pow-le-pow_right}
 use native.Mathlib.Omega.{arith}
 use native.Mathlib.Decide.{dec_lt}
 use lib.IntN.{pos}
-use lib.ListN.{length, get_or, get_or-eq_default}
+use lib.ListN.{get_or, get_or-eq_default}
 use Rattle.laws.specs.Sums.{sum_below}
 use Rattle.laws.proofs.Sums.{sum_same}
 use Rattle.laws.specs.Tabulate.{tabulate}
 use Rattle.laws.proofs.Tabulate.{length-tabulate, get_d_tabulate}
 use Rattle.prediction.specs.Samples.{distance}
 use Rattle.prediction.specs.Plane.{Samples}
-use Rattle.weights.specs.Weights.{scale, weight_of, weight_read, capped_weight}
+use Rattle.weights.specs.Weights.{scale, weight_read, capped_weight}
 use Rattle.weights.proofs.Weights.{zero-weight, read_none, read_some, read_most}
 use Rattle.window.specs.Layout.{side_of}
 use Rattle.denoiser.specs.declared.Block.{Block}
@@ -23,7 +23,7 @@ use Rattle.denoiser.specs.declared.Displacement.{Displacement}
 use Rattle.denoiser.specs.declared.Choice.{Choice}
 use Rattle.denoiser.specs.Grid.{grid_block, grid_side, block_in, unit_of}
 use Rattle.denoiser.specs.Search.{sad_of, displaced_by, block_search}
-use Rattle.denoiser.specs.Window.{Picture, Other, Scene, Rule, gate, centre_at, share_of, accepted_in, cost_of, displacement_of, sad_accepted, block_accepted}
+use Rattle.denoiser.specs.Window.{Picture, Other, Scene, gate, centre_at, share_of, accepted_in, cost_of, displacement_of, sad_accepted, block_accepted}
 use Rattle.denoiser.specs.Chroma.{sample_in, chosen_sample, plane_sad, plane_passes, three_accepted, chosen_accepts, rule_of}
 use Rattle.denoiser.specs.Internal.{curve_rule, curve_share, curve_term, capped_curve, other_share, other_term, other_blocks}
 use Rattle.denoiser.proofs.Cover.{grid_lies, within-grid}

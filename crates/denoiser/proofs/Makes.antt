@@ -1,20 +1,19 @@
 -- What an accepted call leaves, from what its parts leave in the first P entries of the slices. Assumes nothing.
-use mathlib.Core.Path.{◌≡◌, refl, sym, ap, ◌∙◌, subst}
-use mathlib.Core.Bool.{Bool, true, false, cond, ◌||◌}
+use mathlib.Core.Path.{◌≡◌, refl, ◌∙◌, subst}
+use mathlib.Core.Bool.{Bool, true, false, ◌||◌}
 use mathlib.Core.List.{List, ◌++◌}
-use Prim.Native.Nat.{ℕ, ◌+◌, ◌*◌, ◌≤◌, ◌<◌}
-use native.Mathlib.Omega.{arith}
+use Prim.Native.Nat.{ℕ}
 use lib.Dec.{eqb}
 use lib.IntN.{pos}
-use lib.ListN.{length, get_or, drop, take}
-use lib.Seq.{drop_at, take_at}
+use lib.ListN.{length, drop}
+use lib.Seq.{drop_at}
 use borrow.Author.Tests.{eq-eqb, ne_eqb}
 use Rattle.window.specs.Layout.{packed_size}
 use Rattle.window.specs.Frames.{frame_at, frame_count}
 use Rattle.denoiser.specs.Window.{Other, Scene, Rule, centre_at}
 use Rattle.denoiser.specs.Pictures.{picture_of}
 use Rattle.denoiser.specs.Demand.{Held}
-use Rattle.denoiser.specs.Build.{Request, scene_of, window_of, cropped, packed, filled, built_of, samples_of}
+use Rattle.denoiser.specs.Build.{Request, scene_of, cropped, packed, filled, built_of, samples_of}
 use Rattle.denoiser.specs.Internal.{Shows, Legal, Blended, Made}
 use Rattle.denoiser.proofs.Packs.{shows_is}
 

@@ -7,7 +7,7 @@ use Prim.Native.Nat.{ℕ, zero, suc, ◌+◌, ◌*◌, ◌/◌, ◌%◌, ◌<◌
 use native.Mathlib.Nat.{mod-lt, div-lt_iff_lt-mul}
 use native.Mathlib.Omega.{arith}
 use lib.ListN.{drop}
-use Rattle.laws.specs.Outcome.{Outcome, accepted, first_of, after}
+use Rattle.laws.specs.Outcome.{Outcome, first_of, after}
 use Rattle.laws.specs.Sums.{sum_over}
 use Rattle.laws.specs.Tabulate.{tabulate}
 use Rattle.laws.proofs.Sums.{sum_same, sum_over_each}

@@ -1,15 +1,13 @@
 -- Laws of the block search, over any cost. Assumes nothing.
-use mathlib.Core.Path.{◌≡◌, refl, sym, ap, ◌∙◌}
+use mathlib.Core.Path.{◌≡◌, refl, sym, ap, subst, ◌∙◌}
 use mathlib.Core.Bool.{Bool, true, false, cond}
 use mathlib.Core.List.{List, [], ◌∷◌, ◌++◌}
 use Prim.Native.Nat.{ℕ, zero, suc, ◌+◌, ◌*◌, ◌/◌, ◌%◌, ◌≤◌, ◌<◌}
 use native.Mathlib.Nat.{mul-le-mul_right, le_trans}
 use native.Mathlib.Omega.{arith}
-use native.Mathlib.Decide.{dec_lt}
 use lib.Dec.{ltb}
 use lib.IntN.{ℤ, pos, ◌+ℤ◌}
 use lib.ListN.{length}
-use borrow.Author.Tests.{lt-ltb, le-ltb}
 use Rattle.laws.specs.Signed.{above, below}
 use Rattle.laws.proofs.Signed.{sum, diff}
 use Rattle.laws.specs.Best.{better_of, best_of, best_among, best_in}
@@ -134,7 +132,9 @@ module _ (cost : Displacement → ℕ) where
 
   -- the search's displacement costs least of all that are measured, and is one of them
   pub search_least : Each (λ d. cost (block_search cost) ≤ cost d) (measured_by cost)
-  search_least = rw (measured_is, search_is) (among_least cost still tried)
+  search_least =
+      rw measured_is
+      (subst (λ b. Each (λ d. cost b ≤ cost d) (still ∷ tried)) (sym search_is) (among_least cost still tried))
 
   pub search_one : (P : Displacement → Type 0) → Each P (measured_by cost) → P (block_search cost)
   search_one P e = rw search_is (among_one cost P still tried (rw measured_is at e))

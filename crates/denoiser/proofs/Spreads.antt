@@ -1,16 +1,13 @@
 -- Laws of `Spread`: what is added to the three planes comes together.
 
-use mathlib.Core.Path.{◌≡◌, refl, sym, ap, ◌∙◌}
+use mathlib.Core.Path.{◌≡◌, refl, ap, ◌∙◌}
 use mathlib.Core.List.{List}
-use mathlib.Core.Bool.{Bool, true, false}
 use Prim.Native.Nat.{ℕ, zero, suc, ◌+◌, ◌-◌, ◌*◌, ◌/◌, ◌%◌, ◌^◌, ◌≤◌, ◌<◌}
-use native.Mathlib.Nat.{add-zero, zero-add, mul-le-mul_right, div-add-mod', mod-lt, div-lt_iff_lt-mul}
+use native.Mathlib.Nat.{zero-add, div-add-mod', mod-lt, div-lt_iff_lt-mul}
 use native.Mathlib.Omega.{arith}
-use native.Mathlib.Decide.{dec_lt, dec_le, ℕ_discrete}
-use lib.Dec.{eqb, ltb}
-use lib.ListN.{length, get_or, get_or-eq_default}
-use borrow.Author.Tests.{eq-eqb, ne_eqb, lt-ltb, le-ltb}
-use Rattle.window.specs.Layout.{side_of, offset_of, packed_size, place_of}
+use native.Mathlib.Decide.{dec_lt}
+use lib.ListN.{get_or}
+use Rattle.window.specs.Layout.{side_of, offset_of, packed_size}
 use lib.IntN.{ℤ}
 use Rattle.prediction.specs.Plane.{Samples}
 use Rattle.denoiser.specs.declared.Block.{Block}

@@ -1,8 +1,10 @@
 // What the denoiser's definitions speak of; the code that is held to them stands in the crate `arnr`.
+#![tactic(auto)]
+
 use window::Refusal;
 
 // A rectangle of a plane.
-#[derive(Drop)]
+#[derive(Clone, Copy)]
 pub struct Block {
     pub x: usize,
     pub y: usize,
@@ -11,14 +13,14 @@ pub struct Block {
 }
 
 // A displacement in whole samples: columns to the right, rows down.
-#[derive(Drop)]
+#[derive(Clone, Copy)]
 pub struct Displacement {
     pub dx: i32,
     pub dy: i32,
 }
 
 // A plane in the picture bytes: where it starts, the bytes from row to row, and its size.
-#[derive(Drop)]
+#[derive(Clone, Copy)]
 pub struct PlaneNumbers {
     pub start: usize,
     pub stride: usize,
@@ -27,21 +29,21 @@ pub struct PlaneNumbers {
 }
 
 // What a builder's call chooses: whether U and V are displaced by half samples, and whether a block is accepted on three planes.
-#[derive(Drop)]
+#[derive(Clone, Copy)]
 pub struct Choice {
     pub half_sample: bool,
     pub three_planes: bool,
 }
 
 // A displacement and its SAD.
-#[derive(Drop)]
+#[derive(Clone, Copy)]
 pub struct Motion {
     pub displacement: Displacement,
     pub sad: u32,
 }
 
 // The picture's size, and the number of accepted blocks over all other frames.
-#[derive(Drop)]
+#[derive(Clone, Copy)]
 pub struct Built {
     pub width: u32,
     pub height: u32,
@@ -49,7 +51,7 @@ pub struct Built {
 }
 
 // A builder's answer.
-#[derive(Drop)]
+#[derive(Clone, Copy)]
 pub enum BuildAnswer {
     Done(Built),
     Refused(Refusal),

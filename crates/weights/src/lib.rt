@@ -1,4 +1,6 @@
 // The denoiser's configuration and weight curves, and how far it can move a sample.
+#![tactic(auto)]
+
 mod table;
 
 ghost use Rattle.std.specs.Prelude.{◌≡◌, ◌+◌, ◌*◌, ◌≤◌, ◌<◌, min};
@@ -10,7 +12,7 @@ ghost use Rattle.weights.specs.Blend.{distance_bound};
 use table::WEIGHTS;
 
 // How strongly other frames are blended: 0 only crops the centre, 7 to 255 are read as 6.
-#[derive(Drop)]
+#[derive(Clone, Copy)]
 pub struct ArnrConfig {
     pub strength: u8,
 }

@@ -1,6 +1,5 @@
 -- Laws of frames as numbers, and that the private definitions are those of Refusals. Assumes nothing.
 use mathlib.Core.Path.{◌≡◌, refl}
-use mathlib.Core.Bool.{true, false}
 use mathlib.Core.List.{List}
 use Prim.Native.Nat.{ℕ, ◌≤◌, ◌<◌, ◌+◌, ◌*◌}
 use borrow.Author.Tests.{lt-ltb, le-ltb}

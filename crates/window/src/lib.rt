@@ -1,4 +1,6 @@
 // A window of frames in one slice of picture bytes, and the refusals of a builder call.
+#![tactic(auto)]
+
 ghost use Rattle.std.specs.Prelude.{◌≡◌, ◌||◌, ◌+◌, ◌-◌, ◌*◌, ◌≤◌, ◌<◌, ltb};
 ghost use Rattle.prediction.specs.Refusals.{bad_side};
 ghost use Rattle.window.specs.Layout.{half, packed_size};
@@ -9,7 +11,7 @@ ghost use Rattle.window.specs.Internal.{size_differs, cap_above, planes_unfit, f
 // A frame: its size, where its planes start in the picture bytes, the bytes from row to row, and its cap: the most that it
 // weighs where it is not the centre.
 #[repr(C)]
-#[derive(Drop)]
+#[derive(Clone, Copy)]
 pub struct Frame {
     pub width: u32,
     pub height: u32,
@@ -22,14 +24,14 @@ pub struct Frame {
 }
 
 // A picture's size.
-#[derive(Drop)]
+#[derive(Clone, Copy)]
 pub struct Size {
     pub width: u32,
     pub height: u32,
 }
 
 // Why a builder call is refused, with the values that are returned.
-#[derive(Drop)]
+#[derive(Clone, Copy)]
 pub enum Refusal {
     NoCentre,
     TooManyFrames,
@@ -42,7 +44,7 @@ pub enum Refusal {
 }
 
 // What the checks of a builder call find: the picture's size, or the first refusal that applies.
-#[derive(Drop)]
+#[derive(Clone, Copy)]
 pub enum Checked {
     Legal(Size),
     Refused(Refusal),
