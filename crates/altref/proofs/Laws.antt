@@ -7,7 +7,7 @@ use native.Mathlib.Omega.{arith}
 use native.Mathlib.Nat.{le_refl}
 use borrow.Author.Tests.{le-leb, leb-true}
 use lib.Dec.{leb}
-use lib.ListN.{length, take, drop, set, get_or, replicate, length-replicate, length-append}
+use lib.ListN.{length, take, drop, set, get_or, length-replicate, length-append}
 use lib.Seq.{sets, sets-eq, length-sets, take_at, take-suc, take-length, length-take-le}
 use Rattle.window.specs.declared.Frame.{Frame}
 use Rattle.window.specs.Frames.{numbers_per_frame, zero_frame}

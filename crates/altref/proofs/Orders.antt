@@ -6,7 +6,7 @@ use lib.ListN.{length, get_or}
 use Rattle.laws.specs.Front.{list_of}
 use Rattle.laws.proofs.Front.{list_of-back}
 use Rattle.window.specs.declared.Frame.{Frame}
-use Rattle.window.specs.Frames.{frame_count, frame_at, zero_frame}
+use Rattle.window.specs.Frames.{frame_at, zero_frame}
 use Rattle.denoiser.specs.declared.Built.{Built}
 use Rattle.denoiser.specs.declared.BuildAnswer.{BuildAnswer}
 use Rattle.denoiser.specs.declared.BuildAnswer.TheVariants.{Done}

@@ -1,20 +1,17 @@
 -- Of the numbers, refusals 1 and 2 look only at how many there are: what is promised where one of the two applies. Assumes nothing.
 use mathlib.Core.Path.{◌≡◌, refl, sym, ap, ◌∙◌}
-use mathlib.Core.Bool.{true, false}
 use mathlib.Core.List.{List, []}
-use Prim.Native.Nat.{ℕ, ◌*◌, ◌/◌, ◌≤◌, ◌<◌}
+use Prim.Native.Nat.{ℕ, ◌*◌, ◌≤◌, ◌<◌}
 use native.Mathlib.Omega.{arith}
 use borrow.Author.Tests.{le-leb, lt-leb, lt-ltb}
-use lib.Dec.{leb, ltb}
 use lib.ListN.{length}
-use Rattle.laws.specs.Outcome.{Outcome, refused, accepted, after}
+use Rattle.laws.specs.Outcome.{Outcome, refused, after}
 use Rattle.laws.proofs.Outcome.{never}
 use Rattle.window.specs.declared.Refusal.{Refusal}
 use Rattle.window.specs.declared.Refusal.TheVariants.{NoCentre, TooManyFrames}
 use Rattle.window.specs.Frames.{numbers_per_frame, frame_count}
 use Rattle.window.specs.Refusals.{refusal_outcome}
 use Rattle.denoiser.specs.declared.Built.{Built}
-use Rattle.denoiser.specs.declared.BuildAnswer.{BuildAnswer}
 use Rattle.denoiser.specs.declared.BuildAnswer.TheVariants.{Refused}
 use Rattle.denoiser.specs.Window.{Other, Scene, Rule}
 use Rattle.denoiser.specs.Demand.{Held}

@@ -1,4 +1,6 @@
 // The builders over a lent slice of frame records: their numbers are taken into an array, and handed to the builders over numbers.
+#![tactic(auto)]
+
 ghost use Rattle.std.specs.Prelude.{◌≡◌, ◌<◌, ◌≤◌, length, replicate};
 ghost use Rattle.denoiser.specs.Chroma.{rule_of};
 ghost use Rattle.denoiser.specs.Build.{asked, BuildBy, BuildIs};
@@ -54,7 +56,8 @@ fn flatten(frames: &[Frame], n: usize) -> [u32; ARRAY_SIZE]
     let mut numbers = no_numbers();
     let mut i = 0;
     while i < n {
-        numbers = put_frame(numbers, i, frames[i]);
+        let more = put_frame(numbers, i, frames[i]);
+        numbers = more;
         i = i + 1;
     }
     numbers

@@ -1,4 +1,6 @@
 // Motion-compensated temporal filtering: a denoised picture from a window of frames.
+#![tactic(auto)]
+
 mod accumulate;
 mod build;
 mod half;

@@ -1,4 +1,6 @@
 // Frame records in an array: the first of them are lent to a builder over records.
+#![tactic(auto)]
+
 ghost use Rattle.std.specs.Prelude.{◌≡◌, ◌≤◌, min, take};
 ghost use Rattle.window.specs.Frames.{frame_count};
 ghost use Rattle.denoiser.specs.Chroma.{rule_of};

@@ -1,0 +1,11 @@
+use mathlib.Core.Path.{◌≡◌}
+use Prim.Native.Nat.{◌*◌, ◌-◌, ◌≤◌}
+use Rattle.denoiser.specs.Internal.{row_distance}
+use Rattle.laws.specs.Sums.{sum_below}
+use Rattle.arnr.proofs.sad.sad16.Given as goal
+
+abbrev pub invariant-loop-k : goal.invariant-loop-k
+invariant-loop-k l = (l.k ≤ 16) × (l.sum ≡ sum_below (row_distance l.a l.b) l.k) × (l.sum ≤ 255 * l.k)
+
+abbrev pub decreases-loop-k : goal.decreases-loop-k
+decreases-loop-k l = 16 - l.k

@@ -1,0 +1,12 @@
+-- `arnr::sad::sad8` meets its contract. Assumes nothing.
+use mathlib.Core.Path.{◌≡◌}
+use Prim.Native.Nat.{◌*◌, ◌-◌, ◌≤◌}
+use Rattle.denoiser.specs.Internal.{row_distance}
+use Rattle.laws.specs.Sums.{sum_below}
+use Rattle.arnr.proofs.sad.sad8.Given as goal
+
+abbrev pub invariant-loop-k : goal.invariant-loop-k
+invariant-loop-k l = (l.k ≤ 8) × (l.sum ≡ sum_below (row_distance l.a l.b) l.k) × (l.sum ≤ 255 * l.k)
+
+abbrev pub decreases-loop-k : goal.decreases-loop-k
+decreases-loop-k l = 8 - l.k
