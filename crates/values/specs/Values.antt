@@ -1,45 +1,42 @@
--- The starred lines of document 01: rows of one table, each what a definition gives and what the paper says, under one claim; and the
--- values of document 02's requests, rows of a second table under another. Assumes nothing.
-use Rattle.std.specs.Prelude.{Bool, false, cond, ◌&&◌, ◌||◌, List, [], ◌∷◌, map, ◌≡◌, refl, ℕ, zero, suc, ◌-◌, get_or, ℤ, pos, ◌+ℤ◌, ◌-ℤ◌}
+-- The starred lines of document 01: rows of one table, each what a definition gives and what the paper says; and the values of document
+-- 02's requests, rows of a second table. proofs/Claims.antt claims that in each row of either the two are the same. Assumes nothing.
+use Rattle.std.specs.Prelude.{Bool, false, cond, ◌&&◌, ◌||◌, List, [], ◌∷◌, ℕ, zero, suc, ◌-◌, get_or, ℤ, pos, ◌+ℤ◌, ◌-ℤ◌}
 use Rattle.laws.specs.Signed.{above, minus, floor_div, eq_z}
-use Rattle.laws.specs.Sums.{sum_below, sum_over}
-use Rattle.laws.specs.Largest.{largest, nearest}
-use Rattle.laws.specs.Best.{better_of, best_among, best_in}
 use Rattle.prediction.specs.Samples.{distance}
 use Rattle.prediction.specs.Vector.{doubled, whole_of, fraction_of}
-use Rattle.prediction.specs.Filter.{products, filtered, sixtap_rows, sixtap}
+use Rattle.prediction.specs.Filter.{products, filtered, sixtap}
 use Rattle.prediction.specs.Plane.{Samples}
 use Rattle.prediction.specs.Prediction.{horizontal_at, vertical_at}
-use Rattle.weights.specs.Weights.{scale, weight_of, weight_read, capped_weight}
+use Rattle.weights.specs.Weights.{weight_of}
 use Rattle.weights.specs.Blend.{total_weight, weighted_sum, denoised, distance_bound}
 use Rattle.window.specs.Layout.{side_of}
 use Rattle.search.specs.Search.{on_grid}
 use Rattle.denoiser.specs.Grid.{grid_block, block_in}
-use Rattle.denoiser.specs.Search.{halved, sad_of, neighbour_of, neighbours_of, stepped, measured_by, block_search}
+use Rattle.denoiser.specs.Search.{halved}
 use Rattle.denoiser.specs.Chroma.{half_down, half_row, half_sample, plane_sad, plane_passes, three_accepted}
-use Rattle.denoiser.specs.Window.{Picture, Other, Scene, Window, gate, share_of, total_at, sum_at, denoised_at, accepted_in, accepted_blocks}
-use Rattle.denoiser.specs.Window.{cost_of, displacement_of, sad_accepted, block_accepted, displaced_at, arnr_rule}
+use Rattle.denoiser.specs.Window.{Picture, Other, Scene, Window, total_at, sum_at, denoised_at, accepted_blocks}
+use Rattle.denoiser.specs.Window.{sad_accepted, arnr_rule}
 
 -- 1 where the test holds, else 0
-flag : Bool → ℤ
+unfoldable pub flag : Bool → ℤ
 flag t = cond t (pos 1) (pos 0)
 
 pub record Row : Type 0 where
   pub given : ℤ
   pub paper : ℤ
 
-row : ℤ → ℤ → Row
+unfoldable pub row : ℤ → ℤ → Row
 row a b = record { given = a; paper = b }
 
 -- a filtered sample of six samples
-sample_of : ℕ → List ℕ → ℤ
+unfoldable pub sample_of : ℕ → List ℕ → ℤ
 sample_of selector support = pos (filtered (sixtap selector) (λ k. get_or support k 0))
 
 -- the centre sample 100 and one other frame's displaced sample 104, at strength 1
-share_on : ℕ → ℕ
+unfoldable pub share_on : ℕ → ℕ
 share_on displaced = weight_of 1 (distance displaced 100)
 
-pub table : List Row
+unfoldable pub table : List Row
 table =
     -- w at strength 1: e=0 gives 16, 4 gives 8, 15 gives 1, 16 gives 0
     row (pos (weight_of 1 0)) (pos 16) ∷ row (pos (weight_of 1 4)) (pos 8) ∷ row (pos (weight_of 1 15)) (pos 1) ∷ row (pos (weight_of 1 16)) (pos 0) ∷
@@ -70,65 +67,61 @@ table =
     row (pos (distance_bound (weight_of 1) 1)) (pos 1) ∷ row (pos (distance_bound (weight_of 6) 1)) (pos 8) ∷
     []
 
-pub values : map (λ (r : Row). r.given) table ≡ map (λ (r : Row). r.paper) table
-unfolding table row flag sample_of share_on products filtered sixtap sixtap_rows scale weight_of sum_over total_weight weighted_sum denoised largest nearest distance_bound
-values = refl
-
 -- a picture of 1 by 1 whose centre is 100 in every plane, at strength 1, and one other frame of 104 with a cap
-flat : Scene
+unfoldable pub flat : Scene
 flat = record { width = 1; height = 1; strength = 1; centre = λ k x y. 100 }
 
-capped : ℕ → Window Other
+unfoldable pub capped : ℕ → Window Other
 capped cap = record { scene = flat; others = record { picture = λ k x y. 104; cap = cap } ∷ [] }
 
 -- its total weight, sum and denoised sample in Y, and its accepted blocks
-total : ℕ → ℤ
+unfoldable pub total : ℕ → ℤ
 total cap = pos (total_at (arnr_rule flat) (capped cap) 0 0 0)
 
-sum : ℕ → ℤ
+unfoldable pub sum : ℕ → ℤ
 sum cap = pos (sum_at (arnr_rule flat) (capped cap) 0 0 0)
 
-sample : ℕ → ℤ
+unfoldable pub sample : ℕ → ℤ
 sample cap = pos (denoised_at (arnr_rule flat) (capped cap) 0 0 0)
 
-blocks : ℕ → ℤ
+unfoldable pub blocks : ℕ → ℤ
 blocks cap = pos (accepted_blocks (arnr_rule flat) (capped cap))
 
 -- samples that are 255 at (0, 0) and (1, 0) and 0 everywhere else, and their half sample at (0, 0)
-spot : Samples
+unfoldable pub spot : Samples
 spot x y = cond (eq_z y (pos 0) && (eq_z x (pos 0) || eq_z x (pos 1))) 255 0
 
-half_spot : ℤ → ℤ → ℤ
+unfoldable pub half_spot : ℤ → ℤ → ℤ
 half_spot dx dy = pos (half_sample (record { dx = dx; dy = dy }) spot (pos 0) (pos 0))
 
 -- at (1, 1), were the pass down the first, and were the first pass not clamped at 255
-down_first : ℤ
+unfoldable pub down_first : ℤ
 down_first = pos (horizontal_at sixtap 4 (vertical_at sixtap 4 spot) (pos 0) (pos 0))
 
-unclamped : ℤ
+unfoldable pub unclamped : ℤ
 unclamped =
     pos (filtered (sixtap 4) (λ j. above (floor_div (products (sixtap 4) (λ i. spot (pos i -ℤ pos 2) (pos j -ℤ pos 2)) 6 +ℤ pos 64) 128)))
 
 -- a picture of w by h that is 100 in every sample; a frame that is 13 above it in U, but at (0, 0) less by `short`, and as the centre in Y
 -- and V; and of its first block the SAD of U, whether U passes, and whether the block is accepted on three planes
-plain : ℕ → ℕ → Scene
+unfoldable pub plain : ℕ → ℕ → Scene
 plain w h = record { width = w; height = h; strength = 6; centre = λ k x y. 100 }
 
-tinted : ℕ → Picture
+unfoldable pub tinted : ℕ → Picture
 tinted short zero x y = 100
 tinted short (suc zero) x y = 113 - cond (eq_z x (pos 0) && eq_z y (pos 0)) short 0
 tinted short (suc (suc k)) x y = 100
 
-sad_of_u : ℕ → ℕ → ℕ → ℤ
+unfoldable pub sad_of_u : ℕ → ℕ → ℕ → ℤ
 sad_of_u w h short = pos (plane_sad false (plain w h) (tinted short) 0 0 1)
 
-passes_in_u : ℕ → ℕ → ℕ → ℤ
+unfoldable pub passes_in_u : ℕ → ℕ → ℕ → ℤ
 passes_in_u w h short = flag (plane_passes false (plain w h) (tinted short) 0 0 1)
 
-accepted_on_three : ℕ → ℕ → ℕ → ℤ
+unfoldable pub accepted_on_three : ℕ → ℕ → ℕ → ℤ
 accepted_on_three w h short = flag (three_accepted false (plain w h) (tinted short) 0 0)
 
-pub requested : List Row
+unfoldable pub requested : List Row
 requested =
     -- request 7, centre 100, one other 104, strength 1: caps 16 and 8 give total 24, sum 2432, sample 101
     row (total 16) (pos 24) ∷ row (sum 16) (pos 2432) ∷ row (sample 16) (pos 101) ∷
@@ -163,7 +156,3 @@ requested =
     -- of a block of 1 by 16, 8 rows of 1: 103 and 104
     row (sad_of_u 1 16 1) (pos 103) ∷ row (passes_in_u 1 16 1) (pos 1) ∷ row (sad_of_u 1 16 0) (pos 104) ∷ row (passes_in_u 1 16 0) (pos 0) ∷
     []
-
-pub request-values : map (λ (r : Row). r.given) requested ≡ map (λ (r : Row). r.paper) requested
-unfolding requested row flag plain tinted sad_of_u passes_in_u accepted_on_three plane_sad plane_passes three_accepted flat capped total sum sample blocks spot half_spot down_first unclamped sample_of half_sample horizontal_at vertical_at filtered products sixtap sixtap_rows total_at sum_at denoised_at total_weight weighted_sum denoised sum_below sum_over share_of arnr_rule gate capped_weight weight_read weight_of scale accepted_in accepted_blocks cost_of displacement_of block_accepted displaced_at sad_of neighbour_of neighbours_of stepped measured_by block_search best_in best_among better_of
-request-values = refl

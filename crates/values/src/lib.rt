@@ -1,1 +1,2 @@
-// Document 01's values, held against the definitions: the table and its claim stand under specs/.
+// Document 01's values, held against the definitions: the tables stand under specs/, their claims under proofs/.
+#![tactic(auto)]
