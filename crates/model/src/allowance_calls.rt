@@ -5,8 +5,7 @@ ghost use Rattle.numbers.specs.Answers.{Allows};
 
 use numbers::answers::Allowed;
 
-#[unsafe(no_mangle)]
-pub extern "C" fn vp8model_search_picture_luma_within(
+pub fn vp8model_search_picture_luma_within(
     plane: &[u8],
     stride: usize,
     width: usize,

@@ -16,52 +16,45 @@ use numbers::answers::Build;
 use weights::ArnrConfig;
 use window::Frame;
 
-#[unsafe(no_mangle)]
-pub extern "C" fn vp8model_curve(strength: u8, curve: &mut [u32; 256])
+pub fn vp8model_curve(strength: u8, curve: &mut [u32; 256])
     ensures { curve.new ≡ tabulate 256 (weight_read strength) }
 {
     *curve = weights::curve(strength);
 }
 
-#[unsafe(no_mangle)]
-pub extern "C" fn vp8model_weight(strength: u8, e: u8) -> u32
+pub fn vp8model_weight(strength: u8, e: u8) -> u32
     ensures { result ≡ weight_read strength e }
 {
     weights::weight(strength, e)
 }
 
-#[unsafe(no_mangle)]
-pub extern "C" fn vp8model_scale_of(strength: u8) -> u32
+pub fn vp8model_scale_of(strength: u8) -> u32
     ensures { result ≡ scale (min strength 6) }
 {
     weights::scale_of(strength)
 }
 
-#[unsafe(no_mangle)]
-pub extern "C" fn vp8model_distance_bound(n: u32, strength: u8) -> u32
+pub fn vp8model_distance_bound(n: u32, strength: u8) -> u32
     ensures { result ≡ distance_bound (weight_read strength) n }
 {
     weights::distance_bound(n, strength)
 }
 
-#[unsafe(no_mangle)]
-pub extern "C" fn vp8model_arnr_config_new(strength: u8) -> u8
+pub fn vp8model_arnr_config_new(strength: u8) -> u8
     ensures { result ≡ min strength 6 }
 {
     let config = ArnrConfig::new(strength);
     config.strength
 }
 
-#[unsafe(no_mangle)]
-pub extern "C" fn vp8model_arnr_config_default() -> u8
+pub fn vp8model_arnr_config_default() -> u8
     ensures { result ≡ 3 }
 {
     let config = ArnrConfig::default();
     config.strength
 }
 
-#[unsafe(no_mangle)]
-pub extern "C" fn vp8model_arnr_config_with_strength(config: u8, v: u8) -> u8
+pub fn vp8model_arnr_config_with_strength(config: u8, v: u8) -> u8
     ensures { result ≡ v }
 {
     let old = ArnrConfig { strength: config };
@@ -69,22 +62,19 @@ pub extern "C" fn vp8model_arnr_config_with_strength(config: u8, v: u8) -> u8
     new.strength
 }
 
-#[unsafe(no_mangle)]
-pub extern "C" fn vp8model_frame_count(numbers: &[u32]) -> usize
+pub fn vp8model_frame_count(numbers: &[u32]) -> usize
     ensures { result ≡ frame_count numbers.now }
 {
     window::frame_count(numbers)
 }
 
-#[unsafe(no_mangle)]
-pub extern "C" fn vp8model_frame_at(numbers: &[u32], g: usize) -> Frame
+pub fn vp8model_frame_at(numbers: &[u32], g: usize) -> Frame
     ensures { result ≡ frame_at numbers.now g }
 {
     window::frame_at(numbers, g)
 }
 
-#[unsafe(no_mangle)]
-pub extern "C" fn vp8model_check_build(
+pub fn vp8model_check_build(
     bytes: &[u8],
     numbers: &[u32],
     centre: usize,
@@ -98,8 +88,7 @@ pub extern "C" fn vp8model_check_build(
     numbers::check_numbers(checked)
 }
 
-#[unsafe(no_mangle)]
-pub extern "C" fn vp8model_build_from_numbers(
+pub fn vp8model_build_from_numbers(
     bytes: &[u8],
     numbers: &[u32],
     centre: usize,
@@ -126,8 +115,7 @@ pub extern "C" fn vp8model_build_from_numbers(
     numbers::build_numbers(answer)
 }
 
-#[unsafe(no_mangle)]
-pub extern "C" fn vp8model_build_arnr_altref(
+pub fn vp8model_build_arnr_altref(
     bytes: &[u8],
     frames: &[Frame],
     centre: usize,
@@ -154,8 +142,7 @@ pub extern "C" fn vp8model_build_arnr_altref(
     numbers::build_numbers(answer)
 }
 
-#[unsafe(no_mangle)]
-pub extern "C" fn vp8model_build_half_sample(
+pub fn vp8model_build_half_sample(
     bytes: &[u8],
     numbers: &[u32],
     centre: usize,
@@ -182,8 +169,7 @@ pub extern "C" fn vp8model_build_half_sample(
     numbers::build_numbers(answer)
 }
 
-#[unsafe(no_mangle)]
-pub extern "C" fn vp8model_build_three_planes(
+pub fn vp8model_build_three_planes(
     bytes: &[u8],
     numbers: &[u32],
     centre: usize,
@@ -210,8 +196,7 @@ pub extern "C" fn vp8model_build_three_planes(
     numbers::build_numbers(r)
 }
 
-#[unsafe(no_mangle)]
-pub extern "C" fn vp8model_build_three_planes_half_sample(
+pub fn vp8model_build_three_planes_half_sample(
     bytes: &[u8],
     numbers: &[u32],
     centre: usize,

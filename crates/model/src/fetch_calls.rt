@@ -9,22 +9,19 @@ ghost use Rattle.numbers.specs.Answers.{bit, mv_of, Fills};
 use numbers::answers::Status;
 use prediction::motion_vector::Mv;
 
-#[unsafe(no_mangle)]
-pub extern "C" fn vp8model_bad_size(width: usize, height: usize) -> u8
+pub fn vp8model_bad_size(width: usize, height: usize) -> u8
     ensures { result ≡ bit (bad_side width || bad_side height) }
 {
     numbers::bit_of(fetch::bad_size(width, height))
 }
 
-#[unsafe(no_mangle)]
-pub extern "C" fn vp8model_short_plane(len: usize, stride: usize, width: usize, height: usize) -> u8
+pub fn vp8model_short_plane(len: usize, stride: usize, width: usize, height: usize) -> u8
     ensures { result ≡ bit (ltb len ((height - 1) * stride + width)) }
 {
     numbers::bit_of(fetch::short_plane(len, stride, width, height))
 }
 
-#[unsafe(no_mangle)]
-pub extern "C" fn vp8model_fetch_luma_mb_whole_pixel(
+pub fn vp8model_fetch_luma_mb_whole_pixel(
     plane: &[u8],
     stride: usize,
     width: usize,
@@ -48,8 +45,7 @@ pub extern "C" fn vp8model_fetch_luma_mb_whole_pixel(
     Status { refusal: number }
 }
 
-#[unsafe(no_mangle)]
-pub extern "C" fn vp8model_fetch_luma_mb_halo(
+pub fn vp8model_fetch_luma_mb_halo(
     plane: &[u8],
     stride: usize,
     width: usize,

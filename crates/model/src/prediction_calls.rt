@@ -12,65 +12,52 @@ use filters::FilterAnswer;
 use numbers::answers::{Sample, Status, Vector};
 use prediction::motion_vector::Mv;
 
-#[unsafe(no_mangle)]
-pub extern "C" fn vp8model_clamp255(v: i32) -> u8
+pub fn vp8model_clamp255(v: i32) -> u8
     ensures { result ≡ clamped255 v }
 {
     prediction::inverse_transform::clamp255(v)
 }
 
-#[unsafe(no_mangle)]
-pub extern "C" fn vp8model_abs_diff(a: u8, b: u8) -> u8
+pub fn vp8model_abs_diff(a: u8, b: u8) -> u8
     ensures { result ≡ distance a b }
 {
     prediction::inverse_transform::abs_diff(a, b)
 }
 
-#[unsafe(no_mangle)]
-pub extern "C" fn vp8model_stored_luma_mv(row: i16, col: i16) -> Vector
+pub fn vp8model_stored_luma_mv(row: i16, col: i16) -> Vector
     ensures { result ≡ vector_numbers (stored_mv (mv_of row col)) }
 {
     let stored = prediction::motion_comp::stored_luma_mv(Mv { row: row, col: col });
     numbers::vector_numbers(stored)
 }
 
-#[unsafe(no_mangle)]
-pub extern "C" fn vp8model_whole_offset(v: i16) -> i32
+pub fn vp8model_whole_offset(v: i16) -> i32
     ensures { result ≡ whole_of v }
 {
     prediction::motion_comp::whole_offset(v)
 }
 
-#[unsafe(no_mangle)]
-pub extern "C" fn vp8model_fraction(v: i16) -> u32
+pub fn vp8model_fraction(v: i16) -> u32
     ensures { result ≡ fraction_of v }
 {
     prediction::motion_comp::fraction(v)
 }
 
-#[unsafe(no_mangle)]
-pub extern "C" fn vp8model_filter_set_for_version(version: u8) -> u32
+pub fn vp8model_filter_set_for_version(version: u8) -> u32
     ensures { result ≡ filter_number (filter_set_of version) }
 {
     let set = prediction::motion_comp::filter_set_for_version(version);
     numbers::filter_number(set)
 }
 
-#[unsafe(no_mangle)]
-pub extern "C" fn vp8model_interp(selector: u32, support: &[u8; 6]) -> Sample
+pub fn vp8model_interp(selector: u32, support: &[u8; 6]) -> Sample
     ensures { result ≡ sample_numbers (first_of (selector_lines selector) (filtered (sixtap selector) (λ k. get_or support.now k 0))) }
 {
     let answer = sixtap::interp(selector, *support);
     numbers::sample_numbers(answer)
 }
 
-#[unsafe(no_mangle)]
-pub extern "C" fn vp8model_sixtap_mb_luma(
-    halo: &[u8; 441],
-    mx: u32,
-    my: u32,
-    block: &mut [u8; 256],
-) -> Status
+pub fn vp8model_sixtap_mb_luma(halo: &[u8; 441], mx: u32, my: u32, block: &mut [u8; 256]) -> Status
     ensures { Fills (filter_lines mx my) (filtered_mb sixtap mx my halo.now) block.old result block.new }
 {
     let made = sixtap::sixtap_mb_luma(*halo, mx, my);
@@ -84,8 +71,7 @@ pub extern "C" fn vp8model_sixtap_mb_luma(
     }
 }
 
-#[unsafe(no_mangle)]
-pub extern "C" fn vp8model_bilinear_mb_luma(
+pub fn vp8model_bilinear_mb_luma(
     halo: &[u8; 441],
     mx: u32,
     my: u32,

@@ -13,12 +13,7 @@ ghost use Rattle.numbers.specs.Answers.{mv_of, sad_numbers, ceiled_numbers, sear
 use numbers::answers::{Ceiled, Diamond, Picture, Sad, Search};
 use prediction::motion_vector::Mv;
 
-#[unsafe(no_mangle)]
-pub extern "C" fn vp8model_block_sad_16x16_up_to(
-    src: &[u8; 256],
-    pred: &[u8; 256],
-    ceiling: u32,
-) -> Ceiled
+pub fn vp8model_block_sad_16x16_up_to(src: &[u8; 256], pred: &[u8; 256], ceiling: u32) -> Ceiled
     ensures { result
         ≡ ceiled_numbers (record {
           sad = sum_up_to (row_sad src.now pred.now) 16 ceiling;
@@ -29,15 +24,13 @@ pub extern "C" fn vp8model_block_sad_16x16_up_to(
     numbers::ceiled_numbers(read)
 }
 
-#[unsafe(no_mangle)]
-pub extern "C" fn vp8model_block_sad_16x16(src: &[u8; 256], pred: &[u8; 256]) -> u32
+pub fn vp8model_block_sad_16x16(src: &[u8; 256], pred: &[u8; 256]) -> u32
     ensures { result ≡ sad16 src.now pred.now }
 {
     motion_search::motion_search::block_sad_16x16(src, pred)
 }
 
-#[unsafe(no_mangle)]
-pub extern "C" fn vp8model_mb_luma_sad_at_whole_mv(
+pub fn vp8model_mb_luma_sad_at_whole_mv(
     plane: &[u8],
     stride: usize,
     width: usize,
@@ -62,8 +55,7 @@ pub extern "C" fn vp8model_mb_luma_sad_at_whole_mv(
     numbers::sad_numbers(answer)
 }
 
-#[unsafe(no_mangle)]
-pub extern "C" fn vp8model_mb_luma_sad_at_mv(
+pub fn vp8model_mb_luma_sad_at_mv(
     plane: &[u8],
     stride: usize,
     width: usize,
@@ -89,8 +81,7 @@ pub extern "C" fn vp8model_mb_luma_sad_at_mv(
     numbers::sad_numbers(answer)
 }
 
-#[unsafe(no_mangle)]
-pub extern "C" fn vp8model_small_diamond_search_luma(
+pub fn vp8model_small_diamond_search_luma(
     plane: &[u8],
     stride: usize,
     width: usize,
@@ -117,8 +108,7 @@ pub extern "C" fn vp8model_small_diamond_search_luma(
     numbers::diamond_numbers(answer)
 }
 
-#[unsafe(no_mangle)]
-pub extern "C" fn vp8model_half_pixel_refine_luma(
+pub fn vp8model_half_pixel_refine_luma(
     plane: &[u8],
     stride: usize,
     width: usize,
@@ -153,8 +143,7 @@ pub extern "C" fn vp8model_half_pixel_refine_luma(
     numbers::search_numbers(answer)
 }
 
-#[unsafe(no_mangle)]
-pub extern "C" fn vp8model_quarter_pixel_refine_luma(
+pub fn vp8model_quarter_pixel_refine_luma(
     plane: &[u8],
     stride: usize,
     width: usize,
@@ -189,8 +178,7 @@ pub extern "C" fn vp8model_quarter_pixel_refine_luma(
     numbers::search_numbers(answer)
 }
 
-#[unsafe(no_mangle)]
-pub extern "C" fn vp8model_search_picture_luma(
+pub fn vp8model_search_picture_luma(
     plane: &[u8],
     stride: usize,
     width: usize,

@@ -1,4 +1,6 @@
 // Answers as the numbers that C gets: one total function for each kind of answer.
+#![tactic(auto)]
+
 pub mod answers;
 
 ghost use Rattle.std.specs.Prelude.{◌≡◌, []};

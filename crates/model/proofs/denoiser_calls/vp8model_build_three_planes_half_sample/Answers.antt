@@ -1,0 +1,9 @@
+-- `model::denoiser_calls::vp8model_build_three_planes_half_sample` meets its contract: the answer's numbers are those of the defined outcome. Assumes nothing.
+use mathlib.Core.Path.{ap, ◌∙◌}
+use Rattle.numbers.specs.Answers.{build_numbers}
+use Rattle.model.proofs.denoiser_calls.vp8model_build_three_planes_half_sample.Goals as goal
+
+pub returns : goal.returns
+returns c =
+    let made = c.build_three_planes-r.ensures in
+    record { numbers = c.build_numbers.ensures ∙ ap build_numbers made.answer; slices = made.slices }
