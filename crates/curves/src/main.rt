@@ -1,9 +1,11 @@
 // Prints, for each strength from 1 to 6, the strength, its scale s and the greatest difference whose weight is not 0.
+#![tactic(auto)]
+
 ghost use Rattle.std.specs.Prelude.{◌≡◌};
 ghost use Rattle.weights.specs.Weights.{weight_read};
 ghost use Rattle.curves.specs.Reach.{reach_of};
 
-use libc::STDOUT_FILENO;
+use std::io;
 
 // The greatest difference whose weight is not 0; 0 where there is none.
 fn reach(strength: u8) -> usize
@@ -19,20 +21,19 @@ fn reach(strength: u8) -> usize
     0
 }
 
-fn print_line(strength: u8) {
-    io::print_decimal(STDOUT_FILENO, strength as u64);
-    io::write_all(STDOUT_FILENO, b" ");
-    io::print_decimal(STDOUT_FILENO, weights::scale_of(strength) as u64);
-    io::write_all(STDOUT_FILENO, b" ");
-    io::print_decimal(STDOUT_FILENO, reach(strength) as u64);
-    io::write_all(STDOUT_FILENO, b"\n");
+fn print_line(rt: &impl Print, strength: u8) -> io::Result<()> {
+    println!(rt;
+        "{strength} {} {}",
+        weights::scale_of(strength),
+        reach(strength)
+    )
 }
 
-fn main() {
-    print_line(1);
-    print_line(2);
-    print_line(3);
-    print_line(4);
-    print_line(5);
-    print_line(6);
+fn main(rt: HostRuntime) -> io::Result<()> {
+    print_line(&rt, 1)?;
+    print_line(&rt, 2)?;
+    print_line(&rt, 3)?;
+    print_line(&rt, 4)?;
+    print_line(&rt, 5)?;
+    print_line(&rt, 6)
 }

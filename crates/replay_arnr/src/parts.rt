@@ -1,6 +1,8 @@
 // The numbers of a record and of its payload, and the values that stand where nothing is written.
 ghost use Rattle.std.specs.Prelude.{◌≡◌, ◌<◌, ◌≤◌, length};
 
+use std::io::Read;
+
 // What stands in the output before a call, and in the sums and weights: what is not written must still be there.
 const OLD_BYTE: u8 = 165;
 
@@ -85,11 +87,11 @@ pub(crate) fn part(bytes: &[u8], start: usize, len: usize) -> &[u8] {
 }
 
 // Fills the first n bytes from a file, and answers whether it could.
-pub(crate) fn read_part(fd: i32, buf: &mut [u8], n: usize) -> bool {
+pub(crate) fn read_part(input: &mut impl Read, buf: &mut [u8], n: usize) -> bool {
     if buf.len() < n {
         return false;
     }
-    io::read_full(fd, &mut buf[..n]) == n
+    stored::read_full(input, &mut buf[..n]) == n
 }
 
 pub(crate) fn least(a: usize, b: usize) -> usize

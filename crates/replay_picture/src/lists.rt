@@ -1,6 +1,8 @@
 // The numbers of a record and of its payload, and what stands in the lists before a call.
 ghost use Rattle.std.specs.Prelude.{◌≡◌, ◌≤◌, length};
 
+use std::io::Read;
+
 // Room for the entries of 1100 macroblocks, of eight bytes each.
 pub(crate) fn payload_buffer() -> [u8; 8800]
     ensures { 8800 ≡ length result }
@@ -66,12 +68,12 @@ pub(crate) fn entries_of(payload: &[u8], macroblocks: usize) -> &[u8] {
 }
 
 // Fills the first bytes with so many entries of a file, and answers whether it could.
-pub(crate) fn read_entries(fd: i32, payload: &mut [u8], macroblocks: usize) -> bool {
+pub(crate) fn read_entries(input: &mut impl Read, payload: &mut [u8], macroblocks: usize) -> bool {
     if payload.len() / 8 < macroblocks {
         return false;
     }
     let n = macroblocks * 8;
-    io::read_full(fd, &mut payload[..n]) == n
+    stored::read_full(input, &mut payload[..n]) == n
 }
 
 // What entry k of the list of rows, or of the list of columns, holds before a call: no component that is ever found.

@@ -1,5 +1,6 @@
 // Counts: at 0 the first record that differs, at 1 the cases compared, at 2 those that differ, at 3 the macroblocks of all cases;
 // at 4 and 5 the cases of kind 1, compared and that differ, at 6 and 7 those of kind 2.
+use std::io;
 use std::num::wrapping_add_u64;
 
 fn bump(counts: &mut [u64; 8], at: usize, by: u64) {
@@ -25,46 +26,30 @@ pub(crate) fn add(counts: &mut [u64; 8], kind: usize, macroblocks: usize, agrees
     }
 }
 
-fn print(text: &[u8]) {
-    io::write_all(1, text);
+fn print_counts(rt: &impl Print, name: &str, compared: u64, differ: u64) -> io::Result<()> {
+    print!(rt; "{name}{compared} compared, {differ} differ")
 }
 
-fn print_counts(name: &[u8], compared: u64, differ: u64) {
-    print(name);
-    io::print_decimal(1, compared);
-    print(b" compared, ");
-    io::print_decimal(1, differ);
-    print(b" differ");
+fn print_calls(rt: &impl Print, counts: &[u64; 8]) -> io::Result<()> {
+    print_counts(rt, "search_picture_luma: ", counts[4], counts[5])?;
+    print_counts(rt, "\nsearch_picture_luma_within: ", counts[6], counts[7])?;
+    print_counts(rt, "\nall: ", counts[1], counts[2])?;
+    println!(rt; "; {} macroblocks in each of three lists", counts[3])
 }
 
-fn print_calls(counts: &[u64; 8]) {
-    print_counts(b"search_picture_luma: ", counts[4], counts[5]);
-    print_counts(b"\nsearch_picture_luma_within: ", counts[6], counts[7]);
-    print_counts(b"\nall: ", counts[1], counts[2]);
-    print(b"; ");
-    io::print_decimal(1, counts[3]);
-    print(b" macroblocks in each of three lists\n");
-}
-
-pub(crate) fn print_failure(counts: &[u64; 8], why: &[u8]) {
-    print_calls(counts);
-    print(b"FAILED: cases, after ");
-    io::print_decimal(1, counts[1]);
-    print(b" records: ");
-    print(why);
-    print(b"\n");
+pub(crate) fn print_failure(rt: &impl Print, counts: &[u64; 8], why: &str) -> io::Result<()> {
+    print_calls(rt, counts)?;
+    println!(rt; "FAILED: cases, after {} records: {why}", counts[1])
 }
 
 // The end of the cases, of which there are to be so many records.
-pub(crate) fn print_all(counts: &[u64; 8], records: usize) {
+pub(crate) fn print_all(rt: &impl Print, counts: &[u64; 8], records: usize) -> io::Result<()> {
     if counts[1] != records as u64 {
-        print_failure(counts, b"not as many as were written");
-        return;
+        return print_failure(rt, counts, "not as many as were written");
     }
-    print_calls(counts);
+    print_calls(rt, counts)?;
     if 0 < counts[0] {
-        print(b"FAILED: first at record ");
-        io::print_decimal(1, counts[0]);
-        print(b"\n");
+        println!(rt; "FAILED: first at record {}", counts[0])?;
     }
+    Ok(())
 }

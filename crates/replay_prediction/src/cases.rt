@@ -8,6 +8,7 @@ use prediction::motion_comp::{
     FilterSet, filter_set_for_version, fraction, stored_luma_mv, whole_offset,
 };
 use sixtap::{Interpolated, interp, sixtap_mb_luma};
+use std::io::Read;
 use std::num::wrapping_add_u64;
 
 #[derive(Drop)]
@@ -25,9 +26,9 @@ pub enum Step {
     Cut,
 }
 
-pub(crate) fn next(fd: i32, planes: &[u8]) -> Step {
+pub(crate) fn next(input: &mut impl Read, planes: &[u8]) -> Step {
     let mut header = [0u8; 80];
-    if io::read_full(fd, &mut header) < 80 {
+    if stored::read_full(input, &mut header) < 80 {
         return Step::Cut;
     }
     let answer = number(&header, 1);
@@ -35,12 +36,12 @@ pub(crate) fn next(fd: i32, planes: &[u8]) -> Step {
     let kind = number(&header, 0);
     match kind {
         0 => Step::Group(given),
-        1 => whole_pixel(fd, planes, &header),
-        2 => halo(fd, planes, &header),
-        3 => macroblock(fd, kind, &header),
+        1 => whole_pixel(input, planes, &header),
+        2 => halo(input, planes, &header),
+        3 => macroblock(input, kind, &header),
         4 => one(4, is_sample(&header)),
         5 => one(5, clamp255(signed(given)) as usize == answer),
-        6 => distances(fd, byte(given)),
+        6 => distances(input, byte(given)),
         7 => one(7, is_doubled(given, answer)),
         8 => one(8, is_whole(given, answer)),
         9 => one(9, fraction(component(given)) as usize == answer),
@@ -48,7 +49,7 @@ pub(crate) fn next(fd: i32, planes: &[u8]) -> Step {
             10,
             set_number(filter_set_for_version(byte(given))) == answer,
         ),
-        11 => macroblock(fd, kind, &header),
+        11 => macroblock(input, kind, &header),
         99 => Step::End(answer),
         _ => Step::Unknown,
     }
@@ -98,29 +99,29 @@ fn is_whole(given: usize, answer: usize) -> bool {
     whole_offset(component(given)) == signed(answer) && answer < 4294967296
 }
 
-fn whole_pixel(fd: i32, planes: &[u8], header: &[u8; 80]) -> Step {
+fn whole_pixel(input: &mut impl Read, planes: &[u8], header: &[u8; 80]) -> Step {
     let mut expected = [0u8; 256];
-    if io::read_full(fd, &mut expected) < 256 {
+    if stored::read_full(input, &mut expected) < 256 {
         return Step::Cut;
     }
     let f = fetch_of(header);
     let plane = part(planes, f.start, f.len);
     let got = fetch_luma_mb_whole_pixel(plane, f.stride, f.width, f.height, f.x, f.y, f.mv);
     let block = got.block;
-    let same = check::same(&block, &expected);
+    let same = block == expected;
     one(1, same && fetch_number(got.answer) == number(header, 1))
 }
 
-fn halo(fd: i32, planes: &[u8], header: &[u8; 80]) -> Step {
+fn halo(input: &mut impl Read, planes: &[u8], header: &[u8; 80]) -> Step {
     let mut expected = [0u8; 441];
-    if io::read_full(fd, &mut expected) < 441 {
+    if stored::read_full(input, &mut expected) < 441 {
         return Step::Cut;
     }
     let f = fetch_of(header);
     let plane = part(planes, f.start, f.len);
     let got = fetch_luma_mb_halo(plane, f.stride, f.width, f.height, f.x, f.y, f.mv);
     let halo = got.halo;
-    let same = check::same(&halo, &expected);
+    let same = halo == expected;
     one(2, same && fetch_number(got.answer) == number(header, 1))
 }
 
@@ -133,13 +134,13 @@ fn filtered(kind: usize, halo: [u8; 441], mx: u32, my: u32) -> FilteredMb {
     }
 }
 
-fn macroblock(fd: i32, kind: usize, header: &[u8; 80]) -> Step {
+fn macroblock(input: &mut impl Read, kind: usize, header: &[u8; 80]) -> Step {
     let mut halo = [0u8; 441];
-    if io::read_full(fd, &mut halo) < 441 {
+    if stored::read_full(input, &mut halo) < 441 {
         return Step::Cut;
     }
     let mut expected = [0u8; 256];
-    if io::read_full(fd, &mut expected) < 256 {
+    if stored::read_full(input, &mut expected) < 256 {
         return Step::Cut;
     }
     let got = filtered(
@@ -149,7 +150,7 @@ fn macroblock(fd: i32, kind: usize, header: &[u8; 80]) -> Step {
         selector(number(header, 3)),
     );
     let block = got.block;
-    let same = check::same(&block, &expected);
+    let same = block == expected;
     one(kind, same && filter_number(got.answer) == number(header, 1))
 }
 
@@ -163,9 +164,9 @@ fn is_sample(header: &[u8; 80]) -> bool {
 }
 
 // The distances of one byte to all 256.
-fn distances(fd: i32, a: u8) -> Step {
+fn distances(input: &mut impl Read, a: u8) -> Step {
     let mut expected = [0u8; 256];
-    if io::read_full(fd, &mut expected) < 256 {
+    if stored::read_full(input, &mut expected) < 256 {
         return Step::Cut;
     }
     Step::Compared {

@@ -2,15 +2,25 @@
 // and `bilinear`, and prints how many cases it compared and how many differ: by the size of the plane, the empty one first,
 // then by call.
 // The layout of `planes` and `cases` is written in oracle/src/prediction/mod.rs.
+#![tactic(auto)]
+
 mod cases;
 mod header;
 mod tally;
 
 use cases::Step;
+use std::fs::File;
+use std::io;
+use std::io::Read;
 
 // Whether to go on after a record.
-fn replay_one(fd: i32, planes: &[u8], counts: &mut [u64; 32]) -> bool {
-    let step = cases::next(fd, planes);
+fn replay_one(
+    rt: &impl Print,
+    input: &mut impl Read,
+    planes: &[u8],
+    counts: &mut [u64; 32],
+) -> io::Result<bool> {
+    let step = cases::next(input, planes);
     match step {
         Step::Compared {
             kind,
@@ -18,56 +28,51 @@ fn replay_one(fd: i32, planes: &[u8], counts: &mut [u64; 32]) -> bool {
             differing,
         } => {
             tally::add(counts, kind, compared, differing);
-            true
+            Ok(true)
         }
         Step::Group(most) => {
-            tally::print_group(counts, most);
-            true
+            tally::print_group(rt, counts, most)?;
+            Ok(true)
         }
         Step::End(records) => {
-            tally::print_all(counts, records);
-            false
+            tally::print_all(rt, counts, records)?;
+            Ok(false)
         }
         Step::Unknown => {
-            tally::print_failure(counts, b"a record of no known kind");
-            false
+            tally::print_failure(rt, counts, "a record of no known kind")?;
+            Ok(false)
         }
         Step::Cut => {
-            tally::print_failure(counts, b"the file ends early");
-            false
+            tally::print_failure(rt, counts, "the file ends early")?;
+            Ok(false)
         }
     }
 }
 
-// A proved loop has to end, so this one counts its turns down, from more than any file has records.
-fn replay(fd: i32, planes: &[u8]) {
+// A proved loop has to end, so this one has so many turns at most: more than any file has records.
+fn replay(rt: &impl Print, input: &mut impl Read, planes: &[u8]) -> io::Result<()> {
     let mut counts = [0u64; 32];
-    let mut turns = u64::MAX;
-    while turns > 0 && replay_one(fd, planes, &mut counts) {
-        turns -= 1;
+    for _ in 0..u64::MAX {
+        if !replay_one(rt, input, planes, &mut counts)? {
+            break;
+        }
     }
+    Ok(())
 }
 
-fn unread(name: &[u8]) {
-    io::write_all(1, b"FAILED: cannot be read: ");
-    io::write_all(1, name);
-    io::write_all(1, b"\n");
+fn unread(rt: &impl Print, name: &str) -> io::Result<()> {
+    println!(rt; "FAILED: cannot be read: {name}")
 }
 
-fn main() {
-    let mut planes = io::large_buffer();
-    let bytes = os::open_read(b"planes");
-    if bytes < 0 {
-        unread(b"planes");
-        return;
-    }
-    let n = io::read_full(bytes, &mut planes);
-    libc::close(bytes);
-    let fd = os::open_read(b"cases");
-    if fd < 0 {
-        unread(b"cases");
-        return;
-    }
-    replay(fd, &planes[..n]);
-    libc::close(fd);
+fn main(rt: HostRuntime) -> io::Result<()> {
+    let Ok(mut bytes) = File::open(&rt, "planes") else {
+        return unread(&rt, "planes");
+    };
+    let mut planes = [0u8; 65536];
+    let n = stored::read_full(&mut bytes, &mut planes);
+    drop(bytes);
+    let Ok(mut input) = File::open(&rt, "cases") else {
+        return unread(&rt, "cases");
+    };
+    replay(&rt, &mut input, &planes[..n])
 }

@@ -1,59 +1,65 @@
 // Replays the stored answers of the Rust originals, the refusals, and the second implementation's SADs with a ceiling and answers at
 // versions 1 and 2 on the crate `motion_search`, and prints how many cases it compared and how many differ, by call.
 // The layout of `samples` and `cases` is written in oracle/src/search/mod.rs.
+#![tactic(auto)]
+
 mod calls;
 mod header;
 mod tally;
 
+use std::fs::File;
+use std::io;
+use std::io::Read;
+
 // Whether to go on after a record.
-fn replay_one(fd: i32, samples: &[u8], counts: &mut [u64; 32]) -> bool {
+fn replay_one(
+    rt: &impl Print,
+    input: &mut impl Read,
+    samples: &[u8],
+    counts: &mut [u64; 32],
+) -> io::Result<bool> {
     let mut record = [0u8; 128];
-    if io::read_full(fd, &mut record) < 128 {
-        tally::print_failure(counts, b"the file ends early");
-        return false;
+    if stored::read_full(input, &mut record) < 128 {
+        tally::print_failure(rt, counts, "the file ends early")?;
+        return Ok(false);
     }
     let kind = header::number(&record, 0);
     if kind == 99 {
-        tally::print_all(counts, header::number(&record, 1));
-        return false;
+        tally::print_all(rt, counts, header::number(&record, 1))?;
+        return Ok(false);
     }
     if kind == 0 || 7 < kind {
-        tally::print_failure(counts, b"a record of no known kind");
-        return false;
+        tally::print_failure(rt, counts, "a record of no known kind")?;
+        return Ok(false);
     }
     tally::add(counts, kind, calls::agrees(kind, samples, &record));
-    true
+    Ok(true)
 }
 
-// A proved loop has to end, so this one counts its turns down, from more than any file has records.
-fn replay(fd: i32, samples: &[u8]) {
+// A proved loop has to end, so this one has so many turns at most: more than any file has records.
+fn replay(rt: &impl Print, input: &mut impl Read, samples: &[u8]) -> io::Result<()> {
     let mut counts = [0u64; 32];
-    let mut turns = u64::MAX;
-    while turns > 0 && replay_one(fd, samples, &mut counts) {
-        turns -= 1;
+    for _ in 0..u64::MAX {
+        if !replay_one(rt, input, samples, &mut counts)? {
+            break;
+        }
     }
+    Ok(())
 }
 
-fn unread(name: &[u8]) {
-    io::write_all(1, b"FAILED: cannot be read: ");
-    io::write_all(1, name);
-    io::write_all(1, b"\n");
+fn unread(rt: &impl Print, name: &str) -> io::Result<()> {
+    println!(rt; "FAILED: cannot be read: {name}")
 }
 
-fn main() {
-    let mut samples = io::large_buffer();
-    let bytes = os::open_read(b"samples");
-    if bytes < 0 {
-        unread(b"samples");
-        return;
-    }
-    let n = io::read_full(bytes, &mut samples);
-    libc::close(bytes);
-    let fd = os::open_read(b"cases");
-    if fd < 0 {
-        unread(b"cases");
-        return;
-    }
-    replay(fd, &samples[..n]);
-    libc::close(fd);
+fn main(rt: HostRuntime) -> io::Result<()> {
+    let Ok(mut bytes) = File::open(&rt, "samples") else {
+        return unread(&rt, "samples");
+    };
+    let mut samples = [0u8; 65536];
+    let n = stored::read_full(&mut bytes, &mut samples);
+    drop(bytes);
+    let Ok(mut input) = File::open(&rt, "cases") else {
+        return unread(&rt, "cases");
+    };
+    replay(&rt, &mut input, &samples[..n])
 }

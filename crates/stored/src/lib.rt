@@ -1,6 +1,11 @@
 // The numbers of stored records, which the replaying programs read: eight bytes each, the lowest first.
-ghost use Rattle.std.specs.Prelude.{◌≡◌, ◌+◌, ◌≤◌, ◌<◌, length};
+#![tactic(auto)]
+
+ghost use Rattle.std.specs.Prelude.{◌≡◌, ◌+◌, ◌≤◌, ◌<◌, length, take};
+ghost use Rattle.std.specs.Io.KnownBytes.{Consumes};
 ghost use Rattle.stored.specs.Stored.{word_at, number_at};
+
+use std::io::Read;
 
 fn wide(b: u8) -> usize
     ensures { (result ≡ b) × (result < 256) }
@@ -27,4 +32,19 @@ pub fn number(bytes: &[u8], index: usize) -> usize
         return word(bytes, index * 8) + word(bytes, index * 8 + 4) * 4294967296;
     }
     0
+}
+
+// Reads until the buffer is full, the input ends or a read fails, and answers how many bytes it put at the buffer's start.
+pub fn read_full<R: Read>(input: &mut R, buf: &mut [u8]) -> usize
+    ensures within { result ≤ length buf.new }
+    ensures bytes { Consumes (R.remaining input.old) (R.remaining input.new) (take result buf.new) }
+{
+    let mut done = 0;
+    while done < buf.len() {
+        match input.read(&mut buf[done..]) {
+            Ok(0) | Err(_) => break,
+            Ok(n) => done += n,
+        }
+    }
+    done
 }
