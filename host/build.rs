@@ -1,4 +1,4 @@
-//! Links the model's static library: MODEL_LIB, or the one that `rt staticlib model` writes.
+//! Links the model's static library: MODEL_LIB, or the one that tools/staticlib writes.
 
 use std::env;
 use std::path::PathBuf;

@@ -1,7 +1,7 @@
 /*
  * A proved model of a VP8 encoder's picture pre-filter and luma motion search, for C and C++.
  *
- * Link target/staticlib/libmodel.a, which `rt staticlib model` writes (x86-64).
+ * Link target/staticlib/libmodel.a, which tools/staticlib writes (x86-64).
  *
  * Any numbers may be passed. A pointer and its length, in entries, name a lent slice, which is readable,
  * and writable where it is not const; it is aligned as its type asks, and where its length is 0 the pointer
