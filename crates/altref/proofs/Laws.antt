@@ -1,18 +1,15 @@
 -- What the array of numbers holds: it begins with the numbers of the frames that are taken. Assumes nothing.
-use mathlib.Core.Path.{◌≡◌, refl, sym, ap, ◌∙◌}
-use mathlib.Core.Bool.{Bool, true, false, cond}
-use mathlib.Core.List.{List, [], ◌∷◌, ◌++◌}
-use Prim.Native.Nat.{ℕ, zero, suc, ◌+◌, ◌*◌, ◌≤◌}
-use native.Mathlib.Omega.{arith}
-use native.Mathlib.Nat.{le_refl}
-use borrow.Author.Tests.{le-leb, leb-true}
-use lib.Dec.{leb}
-use lib.ListN.{length, take, drop, set, get_or, length-replicate, length-append}
-use lib.Seq.{sets, sets-eq, length-sets, take_at, take-suc, take-length, length-take-le}
+use Rattle.std.proofs.Common.{◌≡◌, refl, sym, ap, ◌∙◌, Bool, cond, List, [], ◌∷◌, ◌++◌, ℕ, zero, suc, ◌+◌, ◌*◌, ◌≤◌, arith, le_refl, le-leb, length, take, drop, set, get_or, length-append, take_at, take-suc, length-take-le}
+use Rattle.std.proofs.Math.Seq.{length-sets, take-length}
+use Rattle.std.proofs.lemmas.List.{length-replicate}
+use Rattle.std.proofs.lemmas.List.Edits.{sets, sets-eq}
+use Rattle.std.proofs.Common.{append_assoc, drop-drop, subst, get_or-take}
+use borrow.Rule.Slice.PartMut.{put_mid}
+use Rattle.std.proofs.lemmas.Bool.Decides.{nat_tests}
 use Rattle.window.specs.declared.Frame.{Frame}
 use Rattle.window.specs.Frames.{numbers_per_frame, zero_frame}
 use Rattle.altref.specs.Records.{numbers_of, flat}
-use Rattle.altref.specs.Internal.{max_frames, array_size, put_at, filled, taken_of, Begins}
+use Rattle.altref.specs.Internal.{max_frames, array_size, put_at, put_frame, filled, taken_of, Begins}
 
 -- numbers put one by one are set as a list
 put_sets : (ns xs : List ℕ) (k : ℕ) → put_at xs k ns ≡ sets xs k ns
@@ -21,6 +18,15 @@ put_sets (n ∷ ns) xs k = ap (λ (j : ℕ). put_at (set xs k n) j ns) next ∙ 
   where
     next : k + 1 ≡ suc k
     next = omega arith
+
+-- the numbers of a frame, copied over the eight at its place
+pub put_copied : (xs ys : List ℕ) (i k : ℕ) (f : Frame) → ys ≡ numbers_of f → k ≡ numbers_per_frame → i * numbers_per_frame + numbers_per_frame ≤ length xs
+    → put_mid (i * numbers_per_frame) k xs ys ≡ put_frame xs i f
+put_copied xs ys i k f e q room =
+    let at : ℕ = i * numbers_per_frame in
+    rw (e, q)
+    (ap (λ (l : List ℕ). take at xs ++ (numbers_of f ++ l)) (drop-drop numbers_per_frame at xs)
+    ∙ sym (append_assoc (take at xs) (numbers_of f) (drop (at + numbers_per_frame) xs)) ∙ sym (put_sets (numbers_of f) xs at ∙ sets-eq (numbers_of f) xs at room))
 
 length-filled : (fs : List Frame) (i : ℕ) → length (filled fs i) ≡ array_size
 length-filled fs zero = length-replicate {A = ℕ} array_size 0
@@ -60,17 +66,21 @@ begins fs = (
       ∙ ap flat (take-length fs),
 )
 
--- what is taken is not too many, and there
-pub taken-few : (m : ℕ) → taken_of m ≤ max_frames
-taken-few m = by-test (leb m max_frames) refl
-  where
-    by-test : (y : Bool) → leb m max_frames ≡ y → cond y m 0 ≤ max_frames
-    by-test true e = leb-true m max_frames e
-    by-test false e = omega arith
+-- what is taken is there
+taken_there : (m : ℕ) → taken_of m ≤ m
+taken_there m = grind (arith, nat_tests)
 
-pub taken_there : (m : ℕ) → taken_of m ≤ m
-taken_there m = by-test (leb m max_frames)
-  where
-    by-test : (y : Bool) → cond y m 0 ≤ m
-    by-test true = omega arith
-    by-test false = omega arith
+-- of the frames that are taken, as of all of them
+filled-take : (fs : List Frame) (n i : ℕ) → i ≤ n → filled (take n fs) i ≡ filled fs i
+filled-take fs n zero h = refl
+filled-take fs n (suc i) h =
+    ap (λ (xs : List ℕ). put_frame xs i (get_or (take n fs) i zero_frame)) (filled-take fs n i (omega arith))
+    ∙ ap (put_frame (filled fs i) i) (get_or-take n fs i zero_frame (omega arith))
+
+pub array_begins : (fs : List Frame) (n : ℕ) (xs : List ℕ) → n ≡ taken_of (length fs) → xs ≡ filled (take n fs) (length (take n fs)) → Begins (flat fs) xs (length fs)
+array_begins fs n xs e q =
+    let there : n ≤ length fs = omega (arith, taken_there (length fs)) in
+    let is : xs ≡ filled fs (taken_of (length fs)) =
+    q ∙ ap (filled (take n fs)) (length-take-le n fs there) ∙ filled-take fs n n (le_refl n) ∙ ap (filled fs) e
+    in
+    subst (λ (l : List ℕ). Begins (flat fs) l (length fs)) (sym is) (begins fs)

@@ -1,15 +1,13 @@
 -- Frame order does not matter, of calls over records (request 11). Assumes nothing.
-use mathlib.Core.Path.{◌≡◌, refl, ap, ◌∙◌, sym, fun_ext, subst}
-use mathlib.Core.List.{List, [], ◌∷◌, Perm, reverse_perm}
-use Prim.Native.Nat.{ℕ}
-use lib.ListN.{length, get_or}
+use Rattle.std.proofs.Common.{◌≡◌, refl, ap, ◌∙◌, sym, subst, List, [], ◌∷◌, ℕ, length, get_or, Result, Ok}
+use Rattle.std.proofs.Math.Path.{fun_ext}
+use mathlib.Core.List.{Perm, reverse_perm}
 use Rattle.laws.specs.Front.{list_of}
 use Rattle.laws.proofs.Front.{list_of-back}
 use Rattle.window.specs.declared.Frame.{Frame}
 use Rattle.window.specs.Frames.{frame_at, zero_frame}
+use Rattle.window.specs.declared.Refusal.{Refusal}
 use Rattle.denoiser.specs.declared.Built.{Built}
-use Rattle.denoiser.specs.declared.BuildAnswer.{BuildAnswer}
-use Rattle.denoiser.specs.declared.BuildAnswer.TheVariants.{Done}
 use Rattle.denoiser.specs.Window.{Other, Scene, Rule}
 use Rattle.denoiser.specs.Demand.{Held}
 use Rattle.denoiser.specs.Build.{asked, cropped, BuildBy, BuildHalf}
@@ -40,19 +38,19 @@ records-same bytes fs gs i j strength p e =
     }
 
 -- so that two accepted calls on them, by one rule, give the same build
-pub order_records : (rule : Scene → Rule Other) (bytes : List ℕ) (fs gs : List Frame) (i j strength : ℕ) (lent given : Held) (r s : BuildAnswer) (held kept : Held)
+pub order_records : (rule : Scene → Rule Other) (bytes : List ℕ) (fs gs : List Frame) (i j strength : ℕ) (lent given : Held) (r s : Result Built Refusal) (held kept : Held)
     → BuildBy rule (record { request = asked bytes (flat fs) i strength; lent = lent }) r held
     → BuildBy rule (record { request = asked bytes (flat gs) j strength; lent = given }) s kept
-    → Perm fs gs → get_or fs i zero_frame ≡ get_or gs j zero_frame → (x y : Built) → r ≡ Done x → s ≡ Done y
+    → Perm fs gs → get_or fs i zero_frame ≡ get_or gs j zero_frame → (x y : Built) → r ≡ Ok x → s ≡ Ok y
     → SameBuild (cropped (asked bytes (flat fs) i strength)) x y held kept
 order_records rule bytes fs gs i j strength lent given r s held kept one other p e x y done also =
     frame_order rule _ _ r s held kept one other (records-same bytes fs gs i j strength p e) x y done also
 
 -- how it is cited: two calls with half samples on three records, one of them twice, oldest first and nearest first
-pub cited : (bytes : List ℕ) (f g : Frame) (strength : ℕ) (lent given : Held) (r s : BuildAnswer) (held kept : Held)
+pub cited : (bytes : List ℕ) (f g : Frame) (strength : ℕ) (lent given : Held) (r s : Result Built Refusal) (held kept : Held)
     → BuildHalf (record { request = asked bytes (flat (f ∷ g ∷ g ∷ [])) 0 strength; lent = lent }) r held
     → BuildHalf (record { request = asked bytes (flat (g ∷ g ∷ f ∷ [])) 2 strength; lent = given }) s kept
-    → (x y : Built) → r ≡ Done x → s ≡ Done y
+    → (x y : Built) → r ≡ Ok x → s ≡ Ok y
     → SameBuild (cropped (asked bytes (flat (f ∷ g ∷ g ∷ [])) 0 strength)) x y held kept
 cited bytes f g strength lent given r s held kept one other x y done also =
     order_half _ _ r s held kept one other (records-same bytes (f ∷ g ∷ g ∷ []) (g ∷ g ∷ f ∷ []) 0 2 strength (reverse_perm (g ∷ g ∷ f ∷ [])) refl) x y done also

@@ -1,9 +1,10 @@
 -- The array that holds the records' numbers, and what the private functions promise over it. No public contract uses these definitions.
 -- Assumes nothing.
-use Rattle.std.specs.Prelude.{◌≡◌, cond, List, [], ◌∷◌, ℕ, zero, suc, ◌+◌, ◌*◌, ◌≤◌, leb, length, set, get_or, replicate, take}
+use Rattle.std.specs.Prelude.{◌≡◌, cond, List, [], ◌∷◌, ℕ, zero, suc, ◌+◌, ◌*◌, ◌≤◌, leb, length, set, get_or, replicate, take, Result}
 use Rattle.window.specs.declared.Frame.{Frame}
+use Rattle.window.specs.declared.Refusal.{Refusal}
 use Rattle.window.specs.Frames.{numbers_per_frame, zero_frame}
-use Rattle.denoiser.specs.declared.BuildAnswer.{BuildAnswer}
+use Rattle.denoiser.specs.declared.Built.{Built}
 use Rattle.denoiser.specs.Demand.{Held}
 use Rattle.denoiser.specs.Window.{Other, Scene, Rule, arnr_rule}
 use Rattle.denoiser.specs.Build.{asked, BuildBy}
@@ -39,10 +40,10 @@ abbrev pub Begins : List ℕ → List ℕ → ℕ → Type 0
 Begins xs numbers count = (length xs ≡ count * numbers_per_frame) × (count ≤ max_frames → take (count * numbers_per_frame) numbers ≡ xs)
 
 -- what is promised over an array and a count, under a rule: what a builder promises over any list of numbers that the array begins with
-abbrev pub OverArrayBy : (Scene → Rule Other) → List ℕ → List ℕ → ℕ → ℕ → ℕ → Held → BuildAnswer → Held → Type 0
+abbrev pub OverArrayBy : (Scene → Rule Other) → List ℕ → List ℕ → ℕ → ℕ → ℕ → Held → Result Built Refusal → Held → Type 0
 OverArrayBy rule bytes numbers count centre strength lent r held =
     (xs : List ℕ) → Begins xs numbers count → BuildBy rule (record { request = asked bytes xs centre strength; lent = lent }) r held
 
 -- the same of the first builder
-abbrev pub OverArray : List ℕ → List ℕ → ℕ → ℕ → ℕ → Held → BuildAnswer → Held → Type 0
+abbrev pub OverArray : List ℕ → List ℕ → ℕ → ℕ → ℕ → Held → Result Built Refusal → Held → Type 0
 OverArray bytes numbers count centre strength lent r held = OverArrayBy arnr_rule bytes numbers count centre strength lent r held

@@ -1,64 +1,44 @@
 // The builders over a lent slice of frame records: their numbers are taken into an array, and handed to the builders over numbers.
 #![tactic(auto)]
 
-ghost use Rattle.std.specs.Prelude.{◌≡◌, ◌<◌, ◌≤◌, length, replicate};
+ghost use Rattle.std.specs.Prelude.{◌≡◌, ◌≤◌, length};
 ghost use Rattle.denoiser.specs.Chroma.{rule_of};
 ghost use Rattle.denoiser.specs.Build.{asked, BuildBy, BuildIs};
-ghost use Rattle.altref.specs.Records.{flat};
-ghost use Rattle.altref.specs.Internal.{max_frames, array_size, put_frame, filled, taken_of, OverArray, OverArrayBy};
+ghost use Rattle.altref.specs.Records.{numbers_of, flat};
+ghost use Rattle.altref.specs.Internal.{max_frames, filled, taken_of, OverArray, OverArrayBy};
 
-use denoiser::{BuildAnswer, Choice};
+use denoiser::{Built, Choice};
 use weights::ArnrConfig;
-use window::{Frame, NUMBERS_PER_FRAME, Refusal};
+use window::{Frame, MAX_FRAMES, NUMBERS_PER_FRAME, Refusal};
 
-// The most frames that are not refused, and the numbers of so many.
-const MAX_FRAMES: usize = 1024;
-
+// The numbers of the most frames that are not refused.
 const ARRAY_SIZE: usize = MAX_FRAMES * NUMBERS_PER_FRAME;
 
-// Writes the numbers of one frame at place i.
-fn put_frame(numbers: [u32; ARRAY_SIZE], i: usize, f: Frame) -> [u32; ARRAY_SIZE]
-    requires { i < max_frames }
-    ensures { result ≡ put_frame numbers i f }
+// The numbers of one frame, in their order.
+fn numbers_of(f: Frame) -> [u32; NUMBERS_PER_FRAME]
+    ensures { result ≡ numbers_of f }
 {
-    let mut out = numbers;
-    let mut at = i * NUMBERS_PER_FRAME;
-    out[at] = f.width;
-    at += 1;
-    out[at] = f.height;
-    at += 1;
-    out[at] = f.y;
-    at += 1;
-    out[at] = f.u;
-    at += 1;
-    out[at] = f.v;
-    at += 1;
-    out[at] = f.luma_stride;
-    at += 1;
-    out[at] = f.chroma_stride;
-    at += 1;
-    out[at] = f.cap;
-    out
+    [
+        f.width,
+        f.height,
+        f.y,
+        f.u,
+        f.v,
+        f.luma_stride,
+        f.chroma_stride,
+        f.cap,
+    ]
 }
 
-// An array of zeros.
-fn no_numbers() -> [u32; ARRAY_SIZE]
-    ensures { result ≡ replicate array_size 0 }
+// The numbers of the frames, one frame after the other; zeros follow.
+fn flatten(frames: &[Frame]) -> [u32; ARRAY_SIZE]
+    requires { length frames.now ≤ max_frames }
+    ensures { result ≡ filled frames.now (length frames.now) }
 {
-    [0; ARRAY_SIZE]
-}
-
-// The numbers of the first n frames, one frame after the other; zeros follow.
-fn flatten(frames: &[Frame], n: usize) -> [u32; ARRAY_SIZE]
-    requires { (n ≤ max_frames) × (n ≤ length frames.now) }
-    ensures { result ≡ filled frames.now n }
-{
-    let mut numbers = no_numbers();
-    let mut i = 0;
-    while i < n {
-        let more = put_frame(numbers, i, frames[i]);
-        numbers = more;
-        i = i + 1;
+    let mut numbers = [0; ARRAY_SIZE];
+    for i in 0..frames.len() {
+        let at = i * NUMBERS_PER_FRAME;
+        numbers[at..at + NUMBERS_PER_FRAME].copy_from_slice(&numbers_of(frames[i]));
     }
     numbers
 }
@@ -71,10 +51,11 @@ fn taken(count: usize) -> usize
 }
 
 // A builder, by its choice, over an array that begins with the numbers of `count` frames, where these are not too many.
-// The centre is tested first and the count second, both before the array is read.
+// The centre is tested first and the count second, both before the array is read. The count stands beside the array, since it may
+// exceed what the array holds (`OverArrayBy`; the edits `taken_for_count` and `taken_for_count_by`).
 fn core_by(
     bytes: &[u8],
-    numbers: [u32; ARRAY_SIZE],
+    numbers: &[u32; ARRAY_SIZE],
     count: usize,
     centre: usize,
     config: ArnrConfig,
@@ -82,8 +63,8 @@ fn core_by(
     output: &mut [u8],
     sums: &mut [u32],
     weights: &mut [u32],
-) -> BuildAnswer
-    ensures { OverArrayBy (rule_of choice) bytes.now numbers count centre config.strength (record {
+) -> Result<Built, Refusal>
+    ensures { OverArrayBy (rule_of choice) bytes.now numbers.now count centre config.strength (record {
       output = output.old;
       sums = sums.old;
       weights = weights.old;
@@ -94,10 +75,10 @@ fn core_by(
     }) }
 {
     if count <= centre {
-        return BuildAnswer::Refused(Refusal::NoCentre);
+        return Err(Refusal::NoCentre);
     }
     if MAX_FRAMES < count {
-        return BuildAnswer::Refused(Refusal::TooManyFrames);
+        return Err(Refusal::TooManyFrames);
     }
     let n = count * NUMBERS_PER_FRAME;
     arnr::build_by(
@@ -112,18 +93,18 @@ fn core_by(
     )
 }
 
-// The first builder over such an array.
+// The first builder over such an array. The edit `filters_too` names this function.
 fn core_of(
     bytes: &[u8],
-    numbers: [u32; ARRAY_SIZE],
+    numbers: &[u32; ARRAY_SIZE],
     count: usize,
     centre: usize,
     config: ArnrConfig,
     output: &mut [u8],
     sums: &mut [u32],
     weights: &mut [u32],
-) -> BuildAnswer
-    ensures { OverArray bytes.now numbers count centre config.strength (record {
+) -> Result<Built, Refusal>
+    ensures { OverArray bytes.now numbers.now count centre config.strength (record {
       output = output.old;
       sums = sums.old;
       weights = weights.old;
@@ -133,12 +114,16 @@ fn core_of(
       weights = weights.new;
     }) }
 {
-    let whole = Choice {
-        half_sample: false,
-        three_planes: false,
-    };
     core_by(
-        bytes, numbers, count, centre, config, whole, output, sums, weights,
+        bytes,
+        numbers,
+        count,
+        centre,
+        config,
+        Choice::WHOLE,
+        output,
+        sums,
+        weights,
     )
 }
 
@@ -151,7 +136,7 @@ pub fn build_arnr_altref(
     output: &mut [u8],
     sums: &mut [u32],
     weights: &mut [u32],
-) -> BuildAnswer
+) -> Result<Built, Refusal>
     ensures { BuildIs (record {
       request = asked bytes.now (flat frames.now) centre config.strength;
       lent = record {
@@ -166,9 +151,10 @@ pub fn build_arnr_altref(
     }) }
 {
     let count = frames.len();
-    let n = taken(count);
-    let numbers = flatten(frames, n);
-    core_of(bytes, numbers, count, centre, config, output, sums, weights)
+    let numbers = flatten(&frames[..taken(count)]);
+    core_of(
+        bytes, &numbers, count, centre, config, output, sums, weights,
+    )
 }
 
 // Every builder, by its choice, over frame records.
@@ -181,7 +167,7 @@ pub fn build_altref_by(
     output: &mut [u8],
     sums: &mut [u32],
     weights: &mut [u32],
-) -> BuildAnswer
+) -> Result<Built, Refusal>
     ensures { BuildBy (rule_of choice) (record {
       request = asked bytes.now (flat frames.now) centre config.strength;
       lent = record { output = output.old; sums = sums.old; weights = weights.old };
@@ -191,10 +177,9 @@ pub fn build_altref_by(
       weights = weights.new;
     }) }
 {
-    let m = frames.len();
-    let n = taken(m);
-    let array = flatten(frames, n);
+    let given = frames.len();
+    let array = flatten(&frames[..taken(given)]);
     core_by(
-        bytes, array, m, centre, config, choice, output, sums, weights,
+        bytes, &array, given, centre, config, choice, output, sums, weights,
     )
 }

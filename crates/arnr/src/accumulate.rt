@@ -1,8 +1,8 @@
 // What the other frames add to the sums and the total weights, in three planes that lie one after the other in the working slices.
-ghost use Rattle.std.specs.Prelude.{◌≡◌, true, ◌+◌, ◌-◌, ◌*◌, ◌/◌, ◌<◌, ◌≤◌, min, eqb, pos, length, get_or};
+ghost use Rattle.std.specs.Prelude.{◌≡◌, ℕ, true, ◌+◌, ◌-◌, ◌*◌, ◌/◌, ◌<◌, ◌≤◌, min, eqb, pos, length, get_or};
 ghost use Rattle.laws.specs.Sums.{sum_below, sum_over};
 ghost use Rattle.prediction.specs.Samples.{distance};
-ghost use Rattle.prediction.specs.Plane.{sample_at};
+ghost use Rattle.prediction.specs.Plane.{Samples, sample_at};
 ghost use Rattle.prediction.specs.Prediction.{square_of};
 ghost use Rattle.window.specs.Layout.{side_of, offset_of, packed_size};
 ghost use Rattle.denoiser.specs.Grid.{grid_block, grid_side, block_in, unit_of};
@@ -17,82 +17,66 @@ use denoiser::{Block, Choice, Displacement, Motion, PlaneNumbers};
 use prediction::inverse_transform;
 use window::Frame;
 
-// The weight of a displaced sample against the centre's.
-fn share(curve: &[u32; 256], d: u8, c: u8) -> u32
-    requires { Light curve.now }
-    ensures { (result ≡ get_or curve.now (distance d c) 0) × (result ≤ 16) }
-{
-    curve[inverse_transform::abs_diff(d, c) as usize]
+// The weights by difference, none above 16.
+#[derive(Drop)]
+pub(crate) struct Curve {
+    pub at: [u32; 256],
+    ghost light: { Light at },
 }
 
-// A weight times a sample.
-fn weighed(w: u32, d: u8) -> u32
-    requires { w ≤ 16 }
-    ensures { (result ≡ w * d) × (result ≤ 4080) }
+// The weight of a displaced sample against the centre's.
+fn share(curve: &Curve, d: u8, c: u8) -> u32
+    ensures { (result ≡ get_or curve.now.at (distance d c) 0) × (result ≤ 16) }
 {
-    w * (d as u32)
+    curve.at[inverse_transform::abs_diff(d, c) as usize]
 }
 
 // A row of displaced samples, weighed against the centre's, is added to the sums and to the total weights.
-fn blend_row(
-    centre: &[u8],
-    displaced: &[u8],
-    curve: &[u32; 256],
-    sums: &mut [u32],
-    weights: &mut [u32],
-)
+fn blend_row(centre: &[u8], displaced: &[u8], curve: &Curve, sums: &mut [u32], weights: &mut [u32])
     requires displaced_len { (length displaced.now ≡ length centre.now) × (length sums.old ≡ length centre.now) × (length weights.old ≡ length
         centre.now) }
-    requires light { Light curve.now }
     requires slack { Slack 1 sums.old weights.old }
-    ensures raised { Raised (row_term curve.now centre.now displaced.now) (length centre.now)
+    ensures raised { Raised (row_term curve.now.at centre.now displaced.now) (length centre.now)
         sums.old sums.new }
-    ensures raised_2 { Raised (row_share curve.now centre.now displaced.now) (length centre.now)
+    ensures raised_2 { Raised (row_share curve.now.at centre.now displaced.now) (length centre.now)
         weights.old weights.new }
 {
-    let mut k = 0;
-    while k < centre.len() {
+    for k in 0..centre.len() {
         let d = displaced[k];
         let w = share(curve, d, centre[k]);
-        sums[k] = sums[k] + weighed(w, d);
-        weights[k] = weights[k] + w;
-        k += 1;
+        sums[k] += w * d as u32;
+        weights[k] += w;
     }
 }
 
-// One row of a block in the plane that stands packed from `at` on: n displaced samples from (x, y) on are added.
+// Displaced samples are added to those from (x, y) on, in one row of the plane that stands packed from `at` on: by any
+// function of the place that has these samples there.
 fn blend_span(
-    bytes: &[u8],
+    row: &[u8],
     p: PlaneNumbers,
     x: usize,
     y: usize,
-    n: usize,
-    d: Displacement,
-    curve: &[u32; 256],
+    curve: &Curve,
     at: usize,
     out: &[u8],
     sums: &mut [u32],
     weights: &mut [u32],
 )
-    requires fits { Fits bytes.now p }
-    requires span { Span p.columns p.rows x y n }
-    requires short { Short d }
+    requires span { Span p.columns p.rows x y (length row.now) }
     requires lent { Lent (at + p.columns * p.rows) out.now sums.old weights.old }
-    requires light { Light curve.now }
     requires slack { Slack 1 sums.old weights.old }
-    ensures placed { Placed at p.columns p.rows (λ i j. gate (eqb j y) (gate (between x n i) (term_by curve.now (sample_at
-        (packed_plane at p.columns p.rows out.now)) (displaced_by d (sample_at (plane_in bytes.now p))) i j)))
-        sums.old sums.new }
-    ensures placed_2 { Placed at p.columns p.rows (λ i j. gate (eqb j y) (gate (between x n i) (share_by curve.now (sample_at
-        (packed_plane at p.columns p.rows out.now)) (displaced_by d (sample_at (plane_in bytes.now p))) i j)))
-        weights.old weights.new }
+    ensures placed { (s : Samples) → ((k : ℕ) → k < length row.now → get_or row.now k 0 ≡ s (pos (x + k)) (pos y)) → Placed at
+        p.columns p.rows (λ i j. gate (eqb j y) (gate (between x (length row.now) i) (term_by curve.now.at (sample_at
+        (packed_plane at p.columns p.rows out.now)) s i j))) sums.old sums.new }
+    ensures placed_2 { (s : Samples) → ((k : ℕ) → k < length row.now → get_or row.now k 0 ≡ s (pos (x + k)) (pos y)) → Placed at
+        p.columns p.rows (λ i j. gate (eqb j y) (gate (between x (length row.now) i) (share_by curve.now.at (sample_at
+        (packed_plane at p.columns p.rows out.now)) s i j))) weights.old weights.new }
 {
-    let row = sad::displaced_row(bytes, p, x, y, n, d);
     let from = at + y * p.columns + x;
-    let to = from + n;
+    let to = from + row.len();
     blend_row(
         &out[from..to],
-        &row[..n],
+        row,
         curve,
         &mut sums[from..to],
         &mut weights[from..to],
@@ -105,7 +89,7 @@ fn blend_block(
     p: PlaneNumbers,
     b: Block,
     d: Displacement,
-    curve: &[u32; 256],
+    curve: &Curve,
     at: usize,
     out: &[u8],
     sums: &mut [u32],
@@ -115,53 +99,46 @@ fn blend_block(
     requires lies { Lies b p.columns p.rows }
     requires short { Short d }
     requires lent { Lent (at + p.columns * p.rows) out.now sums.old weights.old }
-    requires light { Light curve.now }
     requires slack { Slack 2 sums.old weights.old }
-    ensures placed { Placed at p.columns p.rows (λ i j. gate (within b i j) (term_by curve.now (sample_at (packed_plane at p.columns
+    ensures placed { Placed at p.columns p.rows (λ i j. gate (within b i j) (term_by curve.now.at (sample_at (packed_plane at p.columns
         p.rows out.now)) (displaced_by d (sample_at (plane_in bytes.now p))) i j)) sums.old sums.new }
-    ensures placed_2 { Placed at p.columns p.rows (λ i j. gate (within b i j) (share_by curve.now (sample_at (packed_plane at p.columns
+    ensures placed_2 { Placed at p.columns p.rows (λ i j. gate (within b i j) (share_by curve.now.at (sample_at (packed_plane at p.columns
         p.rows out.now)) (displaced_by d (sample_at (plane_in bytes.now p))) i j)) weights.old
         weights.new }
 {
-    let x = b.x;
-    let y = b.y;
-    let n = b.columns;
-    let high = b.rows;
-    let mut r = 0;
-    while r < high {
-        blend_span(bytes, p, x, y + r, n, d, curve, at, out, sums, weights);
-        r += 1;
+    for r in 0..b.rows {
+        let y = b.y + r;
+        let row = sad::displaced_row(bytes, p, b.x, y, b.columns, d);
+        blend_span(&row[..b.columns], p, b.x, y, curve, at, out, sums, weights);
     }
 }
 
-// The planes are numbered: 0 is Y, 1 is U, 2 is V.
+// The planes are numbered, as the definitions number them: 0 is Y, 1 is U, 2 is V. The columns or rows of a plane in a picture of n.
+fn side_of(k: usize, n: u32) -> usize
+    ensures { result ≡ side_of k n }
+{
+    if k == 0 {
+        n as usize
+    } else {
+        (n as usize + 1) / 2
+    }
+}
+
+// The numbers of a plane of a frame.
 pub(crate) fn plane_of(f: Frame, k: usize) -> PlaneNumbers
     requires { (k < 3) × (f.width ≤ 16383) × (f.height ≤ 16383) }
     ensures { result ≡ numbers_of f k }
 {
-    if k == 0 {
-        return PlaneNumbers {
-            start: f.y as usize,
-            stride: f.luma_stride as usize,
-            columns: f.width as usize,
-            rows: f.height as usize,
-        };
-    }
-    let columns = (f.width as usize + 1) / 2;
-    let rows = (f.height as usize + 1) / 2;
-    if k == 1 {
-        return PlaneNumbers {
-            start: f.u as usize,
-            stride: f.chroma_stride as usize,
-            columns: columns,
-            rows: rows,
-        };
-    }
+    let (start, stride) = match k {
+        0 => (f.y, f.luma_stride),
+        1 => (f.u, f.chroma_stride),
+        _ => (f.v, f.chroma_stride),
+    };
     PlaneNumbers {
-        start: f.v as usize,
-        stride: f.chroma_stride as usize,
-        columns: columns,
-        rows: rows,
+        start: start as usize,
+        stride: stride as usize,
+        columns: side_of(k, f.width),
+        rows: side_of(k, f.height),
     }
 }
 
@@ -170,19 +147,11 @@ pub(crate) fn offset_of(w: usize, h: usize, k: usize) -> usize
     requires { (k < 3) × (w ≤ 16383) × (h ≤ 16383) }
     ensures { result ≡ offset_of k w h }
 {
-    if k == 0 {
-        return 0;
+    match k {
+        0 => 0,
+        1 => w * h,
+        _ => w * h + (w + 1) / 2 * ((h + 1) / 2),
     }
-    if k == 1 {
-        return w * h;
-    }
-    w * h + (w + 1) / 2 * ((h + 1) / 2)
-}
-
-fn least(a: usize, b: usize) -> usize
-    ensures { result ≡ min a b }
-{
-    if a < b { a } else { b }
 }
 
 // The block in row i and column j of the grid, cut at the right and bottom edge.
@@ -192,13 +161,11 @@ fn grid_block(w: usize, h: usize, i: usize, j: usize) -> Block
 {
     let x = 16 * j;
     let y = 16 * i;
-    let columns = least(16, w - x);
-    let rows = least(16, h - y);
     Block {
-        x: x,
-        y: y,
-        columns: columns,
-        rows: rows,
+        x,
+        y,
+        columns: 16.min(w - x),
+        rows: 16.min(h - y),
     }
 }
 
@@ -226,9 +193,10 @@ pub(crate) fn displacement_in(k: usize, d: Displacement) -> Displacement
     if k == 0 {
         return d;
     }
-    let dx = d.dx / 2;
-    let dy = d.dy / 2;
-    Displacement { dx: dx, dy: dy }
+    Displacement {
+        dx: d.dx / 2,
+        dy: d.dy / 2,
+    }
 }
 
 // A block is excluded exactly when its SAD is at least 13 times its area.
@@ -246,7 +214,7 @@ fn blend_in(
     k: usize,
     b: Block,
     d: Displacement,
-    curve: &[u32; 256],
+    curve: &Curve,
     out: &[u8],
     sums: &mut [u32],
     weights: &mut [u32],
@@ -255,13 +223,12 @@ fn blend_in(
     requires lies { Lies b f.width f.height }
     requires short { Short d }
     requires lent { Lent (packed_size f.width f.height) out.now sums.old weights.old }
-    requires light { Light curve.now }
     requires slack { Slack 2 sums.old weights.old }
     ensures placed { Placed (offset_of k f.width f.height) (side_of k f.width) (side_of k f.height) (λ x y. gate (within (block_in k b) x y)
-        (term_by curve.now (packed_picture f.width f.height out.now k) (displaced_by (displacement_in k d) (picture_of
+        (term_by curve.now.at (packed_picture f.width f.height out.now k) (displaced_by (displacement_in k d) (picture_of
         bytes.now f k)) x y)) sums.old sums.new }
     ensures placed_2 { Placed (offset_of k f.width f.height) (side_of k f.width) (side_of k f.height) (λ x y. gate (within (block_in k b) x y)
-        (share_by curve.now (packed_picture f.width f.height out.now k) (displaced_by (displacement_in k d) (picture_of
+        (share_by curve.now.at (packed_picture f.width f.height out.now k) (displaced_by (displacement_in k d) (picture_of
         bytes.now f k)) x y)) weights.old weights.new }
 {
     let p = plane_of(f, k);
@@ -271,49 +238,12 @@ fn blend_in(
     blend_block(bytes, p, c, e, curve, at, out, sums, weights);
 }
 
-// Row r of a block of 8 by 8, as much of it as b covers, in the plane that stands packed from `at` on.
-fn blend_line(
-    block: &[u8],
-    p: PlaneNumbers,
-    b: Block,
-    r: usize,
-    curve: &[u32; 256],
-    at: usize,
-    out: &[u8],
-    sums: &mut [u32],
-    weights: &mut [u32],
-)
-    requires block_len { (length block.now ≡ 64) × (r < 8) × (b.columns ≤ 8) }
-    requires span { Span p.columns p.rows b.x (b.y + r) b.columns }
-    requires lent { Lent (at + p.columns * p.rows) out.now sums.old weights.old }
-    requires light { Light curve.now }
-    requires slack { Slack 1 sums.old weights.old }
-    ensures placed { Placed at p.columns p.rows (λ i j. gate (eqb j (b.y + r)) (gate (between b.x b.columns i) (term_by curve.now
-        (sample_at (packed_plane at p.columns p.rows out.now)) (block_samples block.now b.x b.y) i j)))
-        sums.old sums.new }
-    ensures placed_2 { Placed at p.columns p.rows (λ i j. gate (eqb j (b.y + r)) (gate (between b.x b.columns i) (share_by curve.now
-        (sample_at (packed_plane at p.columns p.rows out.now)) (block_samples block.now b.x b.y) i j)))
-        weights.old weights.new }
-{
-    let n = b.columns;
-    let first = 8 * r;
-    let from = at + (b.y + r) * p.columns + b.x;
-    let to = from + n;
-    blend_row(
-        &out[from..to],
-        &block[first..first + n],
-        curve,
-        &mut sums[from..to],
-        &mut weights[from..to],
-    );
-}
-
 // A block of 8 by 8, as much of it as b covers.
 fn blend_square(
     block: &[u8],
     p: PlaneNumbers,
     b: Block,
-    curve: &[u32; 256],
+    curve: &Curve,
     at: usize,
     out: &[u8],
     sums: &mut [u32],
@@ -322,18 +252,16 @@ fn blend_square(
     requires block_len { (length block.now ≡ 64) × (0 < p.columns) × (b.columns ≤ 8) × (b.rows ≤ 8) }
     requires lies { Lies b p.columns p.rows }
     requires lent { Lent (at + p.columns * p.rows) out.now sums.old weights.old }
-    requires light { Light curve.now }
     requires slack { Slack 2 sums.old weights.old }
-    ensures placed { Placed at p.columns p.rows (λ i j. gate (within b i j) (term_by curve.now (sample_at (packed_plane at p.columns
+    ensures placed { Placed at p.columns p.rows (λ i j. gate (within b i j) (term_by curve.now.at (sample_at (packed_plane at p.columns
         p.rows out.now)) (block_samples block.now b.x b.y) i j)) sums.old sums.new }
-    ensures placed_2 { Placed at p.columns p.rows (λ i j. gate (within b i j) (share_by curve.now (sample_at (packed_plane at p.columns
+    ensures placed_2 { Placed at p.columns p.rows (λ i j. gate (within b i j) (share_by curve.now.at (sample_at (packed_plane at p.columns
         p.rows out.now)) (block_samples block.now b.x b.y) i j)) weights.old weights.new }
 {
-    let high = b.rows;
-    let mut r = 0;
-    while r < high {
-        blend_line(block, p, b, r, curve, at, out, sums, weights);
-        r += 1;
+    for r in 0..b.rows {
+        let first = 8 * r;
+        let row = &block[first..first + b.columns];
+        blend_span(row, p, b.x, b.y + r, curve, at, out, sums, weights);
     }
 }
 
@@ -355,7 +283,7 @@ fn blend_half(
     f: Frame,
     k: usize,
     b: Block,
-    curve: &[u32; 256],
+    curve: &Curve,
     out: &[u8],
     sums: &mut [u32],
     weights: &mut [u32],
@@ -364,13 +292,12 @@ fn blend_half(
     requires width_nonzero { (0 < f.width) × (f.width ≤ 16383) × (f.height ≤ 16383) }
     requires lies { Lies b f.width f.height }
     requires lent { Lent (packed_size f.width f.height) out.now sums.old weights.old }
-    requires light { Light curve.now }
     requires slack { Slack 2 sums.old weights.old }
     ensures placed { Placed (offset_of k f.width f.height) (side_of k f.width) (side_of k f.height) (λ x y. gate (within (block_in k b) x y)
-        (term_by curve.now (packed_picture f.width f.height out.now k) (block_samples block.now
+        (term_by curve.now.at (packed_picture f.width f.height out.now k) (block_samples block.now
         (block_in k b).x (block_in k b).y) x y)) sums.old sums.new }
     ensures placed_2 { Placed (offset_of k f.width f.height) (side_of k f.width) (side_of k f.height) (λ x y. gate (within (block_in k b) x y)
-        (share_by curve.now (packed_picture f.width f.height out.now k) (block_samples block.now
+        (share_by curve.now.at (packed_picture f.width f.height out.now k) (block_samples block.now
         (block_in k b).x (block_in k b).y) x y)) weights.old weights.new }
 {
     let q = plane_of(f, k);
@@ -384,19 +311,17 @@ fn filters(d: Displacement, choice: Choice) -> bool
     requires { Short d }
     ensures { result ≡ filtered_in choice.half_sample 1 d }
 {
-    if choice.half_sample {
-        return 0 < half::row(d.dx) + half::row(d.dy);
-    }
-    false
+    choice.half_sample && 0 < half::row(d.dx) + half::row(d.dy)
 }
 
-// One block of a frame at its displacement, in all three planes: U and V are copied.
+// One block of a frame at its displacement, in all three planes: U and V are copied. A function of its own, and each plane a call: with one
+// function for a plane that is copied or filtered the builder was slower (docs/SPEED.md, request 6).
 fn blend_copied(
     bytes: &[u8],
     f: Frame,
     b: Block,
     d: Displacement,
-    curve: &[u32; 256],
+    curve: &Curve,
     out: &[u8],
     sums: &mut [u32],
     weights: &mut [u32],
@@ -405,12 +330,11 @@ fn blend_copied(
     requires lies { Lies b f.width f.height }
     requires short { Short d }
     requires lent { Lent (packed_size f.width f.height) out.now sums.old weights.old }
-    requires light { Light curve.now }
     requires slack { Slack 4 sums.old weights.old }
-    ensures spread { Spread f.width f.height (λ k x y. gate (within (block_in k b) x y) (term_by curve.now (packed_picture f.width
+    ensures spread { Spread f.width f.height (λ k x y. gate (within (block_in k b) x y) (term_by curve.now.at (packed_picture f.width
         f.height out.now k) (displaced_by (displacement_in k d) (picture_of bytes.now f k)) x y)) sums.old
         sums.new }
-    ensures spread_2 { Spread f.width f.height (λ k x y. gate (within (block_in k b) x y) (share_by curve.now (packed_picture f.width
+    ensures spread_2 { Spread f.width f.height (λ k x y. gate (within (block_in k b) x y) (share_by curve.now.at (packed_picture f.width
         f.height out.now k) (displaced_by (displacement_in k d) (picture_of bytes.now f k)) x y)) weights.old
         weights.new }
 {
@@ -427,7 +351,7 @@ fn blend_filtered(
     d: Displacement,
     u: &[u8],
     v: &[u8],
-    curve: &[u32; 256],
+    curve: &Curve,
     out: &[u8],
     sums: &mut [u32],
     weights: &mut [u32],
@@ -438,11 +362,10 @@ fn blend_filtered(
     requires u_value { u.now ≡ square_of 8 (pos (block_in 1 b).x) (pos (block_in 1 b).y) (half_sample d (picture_of bytes.now f 1)) }
     requires v_value { v.now ≡ square_of 8 (pos (block_in 2 b).x) (pos (block_in 2 b).y) (half_sample d (picture_of bytes.now f 2)) }
     requires lent { Lent (packed_size f.width f.height) out.now sums.old weights.old }
-    requires light { Light curve.now }
     requires slack { Slack 4 sums.old weights.old }
-    ensures spread { Spread f.width f.height (λ k x y. gate (within (block_in k b) x y) (term_by curve.now (packed_picture f.width
+    ensures spread { Spread f.width f.height (λ k x y. gate (within (block_in k b) x y) (term_by curve.now.at (packed_picture f.width
         f.height out.now k) (sample_in true k d (picture_of bytes.now f k)) x y)) sums.old sums.new }
-    ensures spread_2 { Spread f.width f.height (λ k x y. gate (within (block_in k b) x y) (share_by curve.now (packed_picture f.width
+    ensures spread_2 { Spread f.width f.height (λ k x y. gate (within (block_in k b) x y) (share_by curve.now.at (packed_picture f.width
         f.height out.now k) (sample_in true k d (picture_of bytes.now f k)) x y)) weights.old
         weights.new }
 {
@@ -451,7 +374,7 @@ fn blend_filtered(
     blend_half(v, f, 2, b, curve, out, sums, weights);
 }
 
-// One block of a frame at its displacement, in all three planes, where U and V pass. The number of accepted blocks, 0 or 1.
+// One block of a frame at its displacement, in all three planes, where U and V pass; whether they do.
 // Whether a block is filtered is asked once, and a block is filtered once, before it is measured.
 fn blend_planes(
     bytes: &[u8],
@@ -459,24 +382,23 @@ fn blend_planes(
     b: Block,
     d: Displacement,
     choice: Choice,
-    curve: &[u32; 256],
+    curve: &Curve,
     out: &[u8],
     sums: &mut [u32],
     weights: &mut [u32],
-) -> u32
+) -> bool
     requires whole { Whole bytes.now f }
     requires lies { Lies b f.width f.height }
     requires short { Short d }
     requires lent { Lent (packed_size f.width f.height) out.now sums.old weights.old }
-    requires light { Light curve.now }
     requires slack { Slack 4 sums.old weights.old }
-    ensures value { result ≡ gate (chroma_passes choice (packed_picture f.width f.height out.now) (picture_of bytes.now f) b d) 1 }
+    ensures value { result ≡ chroma_passes choice (packed_picture f.width f.height out.now) (picture_of bytes.now f) b d }
     ensures spread { Spread f.width f.height (λ k x y. gate (chroma_passes choice (packed_picture f.width f.height out.now)
-        (picture_of bytes.now f) b d) (gate (within (block_in k b) x y) (term_by curve.now (packed_picture f.width
+        (picture_of bytes.now f) b d) (gate (within (block_in k b) x y) (term_by curve.now.at (packed_picture f.width
         f.height out.now k) (sample_in choice.half_sample k d (picture_of bytes.now f k)) x y))) sums.old
         sums.new }
     ensures spread_2 { Spread f.width f.height (λ k x y. gate (chroma_passes choice (packed_picture f.width f.height out.now)
-        (picture_of bytes.now f) b d) (gate (within (block_in k b) x y) (share_by curve.now (packed_picture f.width
+        (picture_of bytes.now f) b d) (gate (within (block_in k b) x y) (share_by curve.now.at (packed_picture f.width
         f.height out.now k) (sample_in choice.half_sample k d (picture_of bytes.now f k)) x y))) weights.old
         weights.new }
 {
@@ -485,15 +407,15 @@ fn blend_planes(
         let v = filtered(bytes, f, 2, b, d);
         if three::squares_pass(&u, &v, f, b, choice, out) {
             blend_filtered(bytes, f, b, d, &u, &v, curve, out, sums, weights);
-            return 1;
+            return true;
         }
-        return 0;
+        return false;
     }
     if three::copies_pass(bytes, f, b, d, choice, out) {
         blend_copied(bytes, f, b, d, curve, out, sums, weights);
-        return 1;
+        return true;
     }
-    0
+    false
 }
 
 // The last best of the block in row i and column j of the grid.
@@ -509,34 +431,33 @@ fn motion_at(bytes: &[u8], f: Frame, i: usize, j: usize, out: &[u8]) -> Motion
     search::block_search(bytes, p, b, out)
 }
 
-// One block of a frame: searched, and where luma passes, and U and V by the choice, added in all three planes. The number of accepted blocks, 0 or 1.
+// One block of a frame: searched, and where luma passes, and U and V by the choice, added in all three planes; whether it is.
 fn blend_at(
     bytes: &[u8],
     f: Frame,
     i: usize,
     j: usize,
     choice: Choice,
-    curve: &[u32; 256],
+    curve: &Curve,
     out: &[u8],
     sums: &mut [u32],
     weights: &mut [u32],
-) -> u32
+) -> bool
     requires whole { Whole bytes.now f }
     requires i_bound { (16 * i < f.height) × (16 * j < f.width) }
     requires lent { Lent (packed_size f.width f.height) out.now sums.old weights.old }
-    requires light { Light curve.now }
     requires slack { Slack 4 sums.old weights.old }
-    ensures value { result ≡ gate (chosen_accepts choice (packed_scene f.width f.height out.now) (picture_of bytes.now f) i j) 1 }
-    ensures spread { Spread f.width f.height (λ k x y. gate (eqb (y / unit_of k) i) (gate (eqb (x / unit_of k) j) (curve_term choice curve.now
+    ensures value { result ≡ chosen_accepts choice (packed_scene f.width f.height out.now) (picture_of bytes.now f) i j }
+    ensures spread { Spread f.width f.height (λ k x y. gate (eqb (y / unit_of k) i) (gate (eqb (x / unit_of k) j) (curve_term choice curve.now.at
         (packed_scene f.width f.height out.now) (picture_of bytes.now f) k x y))) sums.old sums.new }
-    ensures spread_2 { Spread f.width f.height (λ k x y. gate (eqb (y / unit_of k) i) (gate (eqb (x / unit_of k) j) (curve_share choice curve.now
+    ensures spread_2 { Spread f.width f.height (λ k x y. gate (eqb (y / unit_of k) i) (gate (eqb (x / unit_of k) j) (curve_share choice curve.now.at
         (packed_scene f.width f.height out.now) (picture_of bytes.now f) k x y))) weights.old
         weights.new }
 {
     let b = grid_block(f.width as usize, f.height as usize, i, j);
     let m = motion_at(bytes, f, i, j, out);
-    if accepts(b, m.sad) {
-        blend_planes(
+    accepts(b, m.sad)
+        && blend_planes(
             bytes,
             f,
             b,
@@ -547,9 +468,6 @@ fn blend_at(
             sums,
             weights,
         )
-    } else {
-        0
-    }
 }
 
 // All blocks in row i of the grid. The number of accepted blocks.
@@ -558,7 +476,7 @@ fn blend_grid_row(
     f: Frame,
     i: usize,
     choice: Choice,
-    curve: &[u32; 256],
+    curve: &Curve,
     out: &[u8],
     sums: &mut [u32],
     weights: &mut [u32],
@@ -566,21 +484,20 @@ fn blend_grid_row(
     requires whole { Whole bytes.now f }
     requires i_bound { 16 * i < f.height }
     requires lent { Lent (packed_size f.width f.height) out.now sums.old weights.old }
-    requires light { Light curve.now }
     requires slack { Slack 5 sums.old weights.old }
     ensures value { (result ≡ sum_below (λ j. gate (chosen_accepts choice (packed_scene f.width f.height out.now)
         (picture_of bytes.now f) i j) 1) (grid_side f.width)) × (result ≤ grid_side f.width) }
-    ensures spread { Spread f.width f.height (λ k x y. gate (eqb (y / unit_of k) i) (curve_term choice curve.now (packed_scene f.width
+    ensures spread { Spread f.width f.height (λ k x y. gate (eqb (y / unit_of k) i) (curve_term choice curve.now.at (packed_scene f.width
         f.height out.now) (picture_of bytes.now f) k x y)) sums.old sums.new }
-    ensures spread_2 { Spread f.width f.height (λ k x y. gate (eqb (y / unit_of k) i) (curve_share choice curve.now (packed_scene f.width
+    ensures spread_2 { Spread f.width f.height (λ k x y. gate (eqb (y / unit_of k) i) (curve_share choice curve.now.at (packed_scene f.width
         f.height out.now) (picture_of bytes.now f) k x y)) weights.old weights.new }
 {
     let columns = (f.width as usize + 15) / 16;
     let mut count: u32 = 0;
-    let mut j = 0;
-    while j < columns {
-        count += blend_at(bytes, f, i, j, choice, curve, out, sums, weights);
-        j += 1;
+    for j in 0..columns {
+        if blend_at(bytes, f, i, j, choice, curve, out, sums, weights) {
+            count += 1;
+        }
     }
     count
 }
@@ -590,44 +507,38 @@ fn blend_frame(
     bytes: &[u8],
     f: Frame,
     choice: Choice,
-    curve: &[u32; 256],
+    curve: &Curve,
     out: &[u8],
     sums: &mut [u32],
     weights: &mut [u32],
 ) -> u32
     requires whole { Whole bytes.now f }
     requires lent { Lent (packed_size f.width f.height) out.now sums.old weights.old }
-    requires light { Light curve.now }
     requires slack { Slack 6 sums.old weights.old }
-    ensures value { (result ≡ accepted_in (curve_rule choice curve.now (packed_scene f.width f.height out.now)) (packed_scene f.width
+    ensures value { (result ≡ accepted_in (curve_rule choice curve.now.at (packed_scene f.width f.height out.now)) (packed_scene f.width
         f.height out.now) (picture_of bytes.now f)) × (result ≤ 1048576) }
-    ensures spread { Spread f.width f.height (curve_term choice curve.now (packed_scene f.width f.height out.now)
+    ensures spread { Spread f.width f.height (curve_term choice curve.now.at (packed_scene f.width f.height out.now)
         (picture_of bytes.now f)) sums.old sums.new }
-    ensures spread_2 { Spread f.width f.height (curve_share choice curve.now (packed_scene f.width f.height out.now)
+    ensures spread_2 { Spread f.width f.height (curve_share choice curve.now.at (packed_scene f.width f.height out.now)
         (picture_of bytes.now f)) weights.old weights.new }
 {
     let rows = (f.height as usize + 15) / 16;
     let mut count: u32 = 0;
-    let mut i = 0;
-    while i < rows {
+    for i in 0..rows {
         count += blend_grid_row(bytes, f, i, choice, curve, out, sums, weights);
-        i += 1;
     }
     count
 }
 
 // A frame's curve: the lesser of its cap and the curve's weight, at each difference.
-fn capped(curve: &[u32; 256], cap: u32) -> [u32; 256]
-    ensures { result ≡ capped_curve curve.now cap }
+fn capped(curve: &Curve, cap: u32) -> Curve
+    ensures { result.at ≡ capped_curve curve.now.at cap }
 {
     let mut cut = [0; 256];
-    let mut e: usize = 0;
-    while e < 256 {
-        let weight = curve[e];
-        cut[e] = if cap < weight { cap } else { weight };
-        e += 1;
+    for e in 0..256 {
+        cut[e] = cap.min(curve.at[e]);
     }
-    cut
+    Curve { at: cut }
 }
 
 // All frames but the centre, each with its curve cut at its cap. The number of accepted blocks.
@@ -639,7 +550,7 @@ pub(crate) fn blend_frames(
     w: usize,
     h: usize,
     choice: Choice,
-    curve: &[u32; 256],
+    curve: &Curve,
     out: &[u8],
     sums: &mut [u32],
     weights: &mut [u32],
@@ -647,34 +558,22 @@ pub(crate) fn blend_frames(
     requires frames { Frames bytes.now numbers.now count w h }
     requires count_bound { (count ≤ 1024) × (0 < w) }
     requires lent { Lent (packed_size w h) out.now sums.old weights.old }
-    requires light { Light curve.now }
     requires slack { Slack 1030 sums.old weights.old }
-    ensures value { result ≡ sum_over (other_blocks choice curve.now (packed_scene w h out.now))
+    ensures value { result ≡ sum_over (other_blocks choice curve.now.at (packed_scene w h out.now))
         (others_of bytes.now numbers.now centre count) }
-    ensures spread { Spread w h (λ k x y. sum_over (λ f. other_term choice curve.now (packed_scene w h out.now) f k x y) (others_of
+    ensures spread { Spread w h (λ k x y. sum_over (λ f. other_term choice curve.now.at (packed_scene w h out.now) f k x y) (others_of
         bytes.now numbers.now centre count)) sums.old sums.new }
-    ensures spread_2 { Spread w h (λ k x y. sum_over (λ f. other_share choice curve.now (packed_scene w h out.now) f k x y) (others_of
+    ensures spread_2 { Spread w h (λ k x y. sum_over (λ f. other_share choice curve.now.at (packed_scene w h out.now) f k x y) (others_of
         bytes.now numbers.now centre count)) weights.old weights.new }
 {
     let mut total: u32 = 0;
-    let mut g = 0;
-    while g < count {
+    for g in 0..count {
         if g == centre {
-            g += 1;
             continue;
         }
-        let cap = window::frame_at(numbers, g).cap;
-        let cut = capped(curve, cap);
-        total += blend_frame(
-            bytes,
-            window::frame_at(numbers, g),
-            choice,
-            &cut,
-            out,
-            sums,
-            weights,
-        );
-        g += 1;
+        let f = window::frame_at(numbers, g);
+        let cut = capped(curve, f.cap);
+        total += blend_frame(bytes, f, choice, &cut, out, sums, weights);
     }
     total
 }

@@ -9,19 +9,17 @@ ghost use Rattle.denoiser.specs.Chroma.{rule_of};
 ghost use Rattle.denoiser.specs.Build.{asked, scene_of};
 ghost use Rattle.denoiser.specs.Internal.{Fits, Whole, Lent, Exact, Front, Stored, Shows, Ready, Legal, Blended, Made, plane_in};
 
-use crate::accumulate;
+use crate::accumulate::{self, Curve};
 use denoiser::{Choice, PlaneNumbers};
 use window::Frame;
 
-// A row is copied.
+// A row is copied: by a loop, of which the compiler knows that the two do not overlap; the slice's own copy takes longer (docs/SPEED.md).
 fn copy_row(from: &[u8], to: &mut [u8])
     requires { length to.old ≡ length from.now }
     ensures { to.new ≡ from.now }
 {
-    let mut k = 0;
-    while k < from.len() {
+    for k in 0..from.len() {
         to[k] = from[k];
-        k += 1;
     }
 }
 
@@ -32,29 +30,11 @@ fn crop_plane(bytes: &[u8], p: PlaneNumbers, at: usize, out: &mut [u8])
     ensures { Stored at p.columns p.rows (λ x y. sample_at (plane_in bytes.now p) (pos x) (pos y)) out.old
         out.new }
 {
-    let start = p.start;
-    let stride = p.stride;
-    let columns = p.columns;
-    let rows = p.rows;
-    let mut r = 0;
-    while r < rows {
-        let from = start + r * stride;
-        let to = at + r * columns;
-        copy_row(&bytes[from..from + columns], &mut out[to..to + columns]);
-        r += 1;
+    for r in 0..p.rows {
+        let from = p.start + r * p.stride;
+        let to = at + r * p.columns;
+        copy_row(&bytes[from..from + p.columns], &mut out[to..to + p.columns]);
     }
-}
-
-// Plane k of a frame is copied to its place in the packed picture.
-fn crop_in(bytes: &[u8], f: Frame, k: usize, out: &mut [u8])
-    requires k_bound { (k < 3) × Whole bytes.now f }
-    requires height_in_bounds { packed_size f.width f.height ≤ length out.old }
-    ensures { Stored (offset_of k f.width f.height) (side_of k f.width) (side_of k f.height) (λ x y. picture_of bytes.now f k
-        (pos x) (pos y)) out.old out.new }
-{
-    let p = accumulate::plane_of(f, k);
-    let at = accumulate::offset_of(f.width as usize, f.height as usize, k);
-    crop_plane(bytes, p, at, out);
 }
 
 // A frame is copied, packed.
@@ -64,40 +44,38 @@ fn crop(bytes: &[u8], f: Frame, out: &mut [u8])
     ensures out_len_unchanged { length out.new ≡ length out.old }
     ensures shows { Shows f.width f.height (λ k x y. picture_of bytes.now f k (pos x) (pos y)) out.new }
 {
-    crop_in(bytes, f, 0, out);
-    crop_in(bytes, f, 1, out);
-    crop_in(bytes, f, 2, out);
-}
-
-// The first n entries of the sums are 16 times the centre's samples, those of the weights 16.
-fn seed(n: usize, out: &[u8], sums: &mut [u32], weights: &mut [u32])
-    requires { Lent n out.now sums.old weights.old }
-    ensures front { Front n (λ k. 16 * get_or out.now k 0) sums.old sums.new }
-    ensures front_2 { Front n (λ k. 16) weights.old weights.new }
-{
-    let mut k = 0;
-    while k < n {
-        sums[k] = 16 * (out[k] as u32);
-        weights[k] = 16;
-        k += 1;
+    for k in 0..3 {
+        let at = accumulate::offset_of(f.width as usize, f.height as usize, k);
+        crop_plane(bytes, accumulate::plane_of(f, k), at, out);
     }
 }
 
-// The first n samples of the output are those of the sums and the total weights.
-fn resolve(n: usize, out: &mut [u8], sums: &[u32], weights: &[u32])
-    requires lent { Lent n out.old sums.now weights.now }
-    requires by_index { (k : ℕ) → k < n → Ready (get_or sums.now k 0) (get_or weights.now k 0) }
-    ensures { Front n (λ k. denoised (get_or sums.now k 0) (get_or weights.now k 0)) out.old out.new }
+// The sums are 16 times the centre's samples, the weights 16.
+fn seed(out: &[u8], sums: &mut [u32], weights: &mut [u32])
+    requires exact { Exact (length out.now) out.now sums.old weights.old }
+    ensures front { Front (length out.now) (λ k. 16 * get_or out.now k 0) sums.old sums.new }
+    ensures front_2 { Front (length out.now) (λ k. 16) weights.old weights.new }
 {
-    let mut k = 0;
-    while k < n {
+    for k in 0..out.len() {
+        sums[k] = 16 * (out[k] as u32);
+    }
+    weights.fill(16);
+}
+
+// The samples of the output are those of the sums and the total weights.
+fn resolve(out: &mut [u8], sums: &[u32], weights: &[u32])
+    requires exact { Exact (length out.old) out.old sums.now weights.now }
+    requires by_index { (k : ℕ) → k < length out.old → Ready (get_or sums.now k 0) (get_or weights.now k 0) }
+    ensures { Front (length out.old) (λ k. denoised (get_or sums.now k 0) (get_or weights.now k 0)) out.old
+        out.new }
+{
+    for k in 0..out.len() {
         let total = weights[k];
         out[k] = ((sums[k] + total / 2) / total) as u8;
-        k += 1;
     }
 }
 
-// P: the samples of all three planes.
+// P: the samples of all three planes. Not by `window`, whose `packed_size` is private: it asks for legal sides, and no public function asks for anything.
 fn samples_in(w: usize, h: usize) -> usize
     requires { (w ≤ 16383) × (h ≤ 16383) }
     ensures { result ≡ packed_size w h }
@@ -127,14 +105,15 @@ fn blend(
       weights = weights.new;
     }) }
 {
-    let n = output.len();
-    let curve = weights::curve(strength);
-    seed(n, output, sums, weights);
+    let curve = Curve {
+        at: weights::curve(strength),
+    };
+    seed(output, sums, weights);
     let count = window::frame_count(numbers);
     let accepted = accumulate::blend_frames(
         bytes, numbers, count, centre, w, h, choice, &curve, output, sums, weights,
     );
-    resolve(n, output, sums, weights);
+    resolve(output, sums, weights);
     accepted
 }
 
@@ -166,10 +145,7 @@ pub(crate) fn make(
     let n = samples_in(w, h);
     let f = window::frame_at(numbers, centre);
     crop(bytes, f, &mut output[..n]);
-    if window::frame_count(numbers) == 1 {
-        return 0;
-    }
-    if strength == 0 {
+    if window::frame_count(numbers) == 1 || strength == 0 {
         return 0;
     }
     blend(

@@ -11,9 +11,9 @@ mod three;
 ghost use Rattle.denoiser.specs.Chroma.{rule_of};
 ghost use Rattle.denoiser.specs.Build.{BuildBy, BuildIs, BuildHalf, BuildThree, asked};
 
-use denoiser::{BuildAnswer, Built, Choice};
+use denoiser::{Built, Choice};
 use weights::ArnrConfig;
-use window::Checked;
+use window::Refusal;
 
 // Every builder: the checks, and what an accepted call makes by the choice.
 pub fn build_by(
@@ -25,7 +25,7 @@ pub fn build_by(
     output: &mut [u8],
     sums: &mut [u32],
     weights: &mut [u32],
-) -> BuildAnswer
+) -> Result<Built, Refusal>
     ensures { BuildBy (rule_of choice) (record {
       request = asked bytes.now numbers.now centre config.strength;
       lent = record {
@@ -39,38 +39,31 @@ pub fn build_by(
       weights = weights.new;
     }) }
 {
-    let checked = window::check_build(
+    let size = window::check_build(
         bytes,
         numbers,
         centre,
         output.len(),
         sums.len(),
         weights.len(),
+    )?;
+    let accepted = build::make(
+        bytes,
+        numbers,
+        centre,
+        config.strength,
+        choice,
+        size.width as usize,
+        size.height as usize,
+        output,
+        sums,
+        weights,
     );
-    match checked {
-        Checked::Refused(refusal) => BuildAnswer::Refused(refusal),
-        Checked::Legal(size) => {
-            let width = size.width;
-            let height = size.height;
-            let accepted = build::make(
-                bytes,
-                numbers,
-                centre,
-                config.strength,
-                choice,
-                width as usize,
-                height as usize,
-                output,
-                sums,
-                weights,
-            );
-            BuildAnswer::Done(Built {
-                width: width,
-                height: height,
-                accepted: accepted,
-            })
-        }
-    }
+    Ok(Built {
+        width: size.width,
+        height: size.height,
+        accepted,
+    })
 }
 
 // The builder over the numbers of the frames: eight for each, numbers left over are not read.
@@ -82,7 +75,7 @@ pub fn build_from_numbers(
     output: &mut [u8],
     sums: &mut [u32],
     weights: &mut [u32],
-) -> BuildAnswer
+) -> Result<Built, Refusal>
     ensures { BuildIs (record {
       request = asked bytes.now numbers.now centre config.strength;
       lent = record {
@@ -112,7 +105,7 @@ pub fn build_half_sample(
     output: &mut [u8],
     sums: &mut [u32],
     weights: &mut [u32],
-) -> BuildAnswer
+) -> Result<Built, Refusal>
     ensures { BuildHalf (record {
       request = asked bytes.now numbers.now centre config.strength;
       lent = record {
@@ -143,7 +136,7 @@ pub fn build_three_planes(
     output: &mut [u8],
     sums: &mut [u32],
     weights: &mut [u32],
-) -> BuildAnswer
+) -> Result<Built, Refusal>
     ensures { BuildThree half_sample (record {
       request = asked bytes.now numbers.now centre config.strength;
       lent = record {
@@ -158,7 +151,7 @@ pub fn build_three_planes(
     }) }
 {
     let three = Choice {
-        half_sample: half_sample,
+        half_sample,
         three_planes: true,
     };
     build_by(bytes, numbers, centre, config, three, output, sums, weights)

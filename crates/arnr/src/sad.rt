@@ -7,23 +7,21 @@ ghost use Rattle.prediction.specs.Plane.{sample_at, nearest_in};
 ghost use Rattle.prediction.specs.Ceiled.{CeiledIs};
 ghost use Rattle.prediction.specs.Internal.{row_apart};
 ghost use Rattle.denoiser.specs.Search.{displaced_by, still};
-ghost use Rattle.denoiser.specs.Internal.{Fits, Short, Span, Near, Runs, Lies, plane_in, packed_plane, row_distance, luma_row, sad_row, eight_apart};
+ghost use Rattle.denoiser.specs.Internal.{Fits, Short, Span, Near, Runs, Lies, plane_in, packed_plane, row_distance, luma_row, sad_row};
 
 use denoiser::{Block, Displacement, PlaneNumbers};
 use prediction::ceiling::Ceiled;
 use prediction::inverse_transform;
+
+// No displacement.
+pub(crate) const STILL: Displacement = Displacement { dx: 0, dy: 0 };
 
 // The coordinate nearest to x + d among 0 .. n - 1.
 fn edge(x: usize, d: i32, n: usize) -> usize
     requires { (x < 16400) × (0 < n) × (n ≤ 16383) × (above d ≤ 15) × (below d ≤ 15) }
     ensures { result ≡ nearest_in n (pos x +ℤ d) }
 {
-    let at = (x as i32) + d;
-    if at < 0 {
-        return 0;
-    }
-    let s = at as usize;
-    if s < n { s } else { n - 1 }
+    (x as i32 + d).clamp(0, n as i32 - 1) as usize
 }
 
 // A displaced sample of a plane.
@@ -54,10 +52,8 @@ fn edge_row(
     ensures { (k : ℕ) → k < n → get_or result k 0 ≡ displaced_by d (sample_at (plane_in bytes.now p)) (pos (x + k)) (pos y) }
 {
     let mut row = [0u8; 16];
-    let mut k = 0;
-    while k < n {
+    for k in 0..n {
         row[k] = displaced(bytes, p, x + k, y, d);
-        k += 1;
     }
     row
 }
@@ -67,42 +63,36 @@ fn runs_inside(x: usize, n: usize, d: i32, columns: usize) -> bool
     requires { (x < 16400) × (n ≤ 16) × (columns ≤ 16383) × (above d ≤ 15) × (below d ≤ 15) }
     ensures { result ≡ true → Runs x n d columns }
 {
-    if n == 0 {
-        return false;
-    }
-    let first = (x as i32) + d;
-    if first < 0 {
-        return false;
-    }
-    (first as usize) + n <= columns
+    let first = x as i32 + d;
+    0 < n && 0 <= first && first as usize + n <= columns
 }
 
-// The first n samples from a place on. A loop of sixteen or eight becomes a plain copy; one of n, calls to clear and to copy.
+// The first N samples from a place on.
+fn copied<const N: usize>(bytes: &[u8], at: usize) -> [u8; 16]
+    requires { (N ≤ 16) × (at + N ≤ length bytes.now) }
+    ensures { (k : ℕ) → k < N → get_or result k 0 ≡ get_or bytes.now (at + k) 0 }
+{
+    let mut row = [0u8; 16];
+    for k in 0..N {
+        row[k] = bytes[at + k];
+    }
+    row
+}
+
+// The first n samples from a place on. Sixteen or eight, of a known count, become a plain copy; n, calls to clear and to copy.
 fn inner_row(bytes: &[u8], at: usize, n: usize) -> [u8; 16]
     requires { (n ≤ 16) × (at + n ≤ length bytes.now) }
     ensures { (k : ℕ) → k < n → get_or result k 0 ≡ get_or bytes.now (at + k) 0 }
 {
-    let mut row = [0u8; 16];
-    let mut k = 0;
-    if n == 16 {
-        while k < 16 {
-            row[k] = bytes[at + k];
-            k += 1;
+    match n {
+        16 => copied::<16>(bytes, at),
+        8 => copied::<8>(bytes, at),
+        _ => {
+            let mut row = [0u8; 16];
+            row[..n].copy_from_slice(&bytes[at..at + n]);
+            row
         }
-        return row;
     }
-    if n == 8 {
-        while k < 8 {
-            row[k] = bytes[at + k];
-            k += 1;
-        }
-        return row;
-    }
-    while k < n {
-        row[k] = bytes[at + k];
-        k += 1;
-    }
-    row
 }
 
 // A row of n displaced samples, from (x, y) on: copied where they lie in the plane.
@@ -128,11 +118,16 @@ pub(crate) fn displaced_row(
     edge_row(bytes, p, x, y, n, d)
 }
 
-// The absolute difference of two samples.
-fn difference(a: u8, b: u8) -> u32
-    ensures { (result ≡ distance a b) × (result ≤ 255) }
+// The SAD of two rows of N: a loop of a known count.
+fn sad<const N: usize>(a: &[u8], b: &[u8]) -> u32
+    requires { (length a.now ≡ N) × (length b.now ≡ N) × (N ≤ 16) }
+    ensures { (result ≡ sum_below (row_distance a.now b.now) N) × (result ≤ 4080) }
 {
-    inverse_transform::abs_diff(a, b) as u32
+    let mut sum: u32 = 0;
+    for k in 0..N {
+        sum += inverse_transform::abs_diff(a[k], b[k]) as u32;
+    }
+    sum
 }
 
 // The SAD of two rows of at most 16.
@@ -141,24 +136,8 @@ pub(crate) fn short_row_sad(a: &[u8], b: &[u8]) -> u32
     ensures { (result ≡ sum_below (row_distance a.now b.now) (length a.now)) × (result ≤ 4080) }
 {
     let mut sum: u32 = 0;
-    let mut k = 0;
-    while k < a.len() {
-        sum += difference(a[k], b[k]);
-        k += 1;
-    }
-    sum
-}
-
-// The SAD of two rows of 16.
-fn sad16(a: &[u8], b: &[u8]) -> u32
-    requires { (length a.now ≡ 16) × (length b.now ≡ 16) }
-    ensures { (result ≡ sum_below (row_distance a.now b.now) 16) × (result ≤ 4080) }
-{
-    let mut sum: u32 = 0;
-    let mut k = 0;
-    while k < 16 {
-        sum += difference(a[k], b[k]);
-        k += 1;
+    for k in 0..a.len() {
+        sum += inverse_transform::abs_diff(a[k], b[k]) as u32;
     }
     sum
 }
@@ -169,9 +148,10 @@ fn row_sad(a: &[u8], b: &[u8]) -> u32
     ensures { (result ≡ sum_below (row_distance a.now b.now) (length a.now)) × (result ≤ 4080) }
 {
     if a.len() == 16 {
-        return sad16(a, b);
+        sad::<16>(a, b)
+    } else {
+        short_row_sad(a, b)
     }
-    short_row_sad(a, b)
 }
 
 // The SAD of one row of a block, wherever its displaced samples lie.
@@ -197,6 +177,30 @@ fn span_sad(
     row_sad(&centre[from..to], &row[..n])
 }
 
+// The SAD of n rows up to a ceiling: each row, once measured, is held against what is left of it. Each closure has its own instance,
+// which is called at one place, so that the compiler inlines it.
+pub(crate) fn up_to<F: Fn(usize) -> u32>(n: usize, ceiling: u32, row: F) -> Ceiled
+    requires rows_bound { n ≤ 16 }
+    requires each { (r : ℕ) → r < n → F.pre row r }
+    ensures { (sad : ℕ → ℕ) → ((r v : ℕ) → r < n → F.post row r v → v ≡ sad r) → CeiledIs sad n ceiling result }
+{
+    let mut left = ceiling;
+    for r in 0..n {
+        let measured = row(r);
+        if left <= measured {
+            return Ceiled {
+                sad: ceiling,
+                rows: r as u32 + 1,
+            };
+        }
+        left -= measured;
+    }
+    Ceiled {
+        sad: ceiling - left,
+        rows: n as u32,
+    }
+}
+
 // The SAD of a displaced block up to a ceiling, wherever it lies: row by row.
 fn edge_sad(
     bytes: &[u8],
@@ -212,72 +216,29 @@ fn edge_sad(
     requires rows_in_bounds { p.columns * p.rows ≤ length centre.now }
     ensures { CeiledIs (luma_row centre.now bytes.now p b d) b.rows ceiling result }
 {
-    let x = b.x;
-    let y = b.y;
-    let n = b.columns;
-    let high = b.rows;
-    let mut left = ceiling;
-    let mut r: usize = 0;
-    while r < high {
-        let row = span_sad(bytes, p, x, y + r, n, d, centre);
-        r += 1;
-        if left <= row {
-            return Ceiled {
-                sad: ceiling,
-                rows: r as u32,
-            };
-        }
-        left -= row;
-    }
-    Ceiled {
-        sad: ceiling - left,
-        rows: high as u32,
-    }
+    let by_row = |r| span_sad(bytes, p, b.x, b.y + r, b.columns, d, centre);
+    up_to(b.rows, ceiling, by_row)
 }
 
-// The SAD of row r of two blocks of 16 columns.
-fn row_at(a: &[u8], at: usize, stride: usize, b: &[u8], from: usize, across: usize, r: usize) -> u32
-    requires { (at + 15 * stride + 16 ≤ length a.now) × (from + 15 * across + 16 ≤ length b.now) × (r < 16) }
-    ensures { result ≡ row_apart a.now at stride b.now from across r }
-{
-    let i = at + r * stride;
-    let j = from + r * across;
-    sad16(&a[i..i + 16], &b[j..j + 16])
-}
-
-// The SAD of two blocks of 16 by 16 up to a ceiling: each row, once measured, is held against what is left of it.
-fn inner_sad(
+// The SAD of row r of two blocks of N columns.
+pub(crate) fn row_at<const N: usize>(
     a: &[u8],
     at: usize,
     stride: usize,
     b: &[u8],
     from: usize,
     across: usize,
-    ceiling: u32,
-) -> Ceiled
-    requires { (at + 15 * stride + 16 ≤ length a.now) × (from + 15 * across + 16 ≤ length b.now) }
-    ensures { CeiledIs (row_apart a.now at stride b.now from across) 16 ceiling result }
+    r: usize,
+) -> u32
+    requires { (at + r * stride + N ≤ length a.now) × (from + r * across + N ≤ length b.now) × (N ≤ 16) }
+    ensures { result ≡ sum_below (λ k. distance (get_or a.now (at + r * stride + k) 0) (get_or b.now (from + r * across + k) 0)) N }
 {
-    let mut left = ceiling;
-    let mut r: usize = 0;
-    while r < 16 {
-        let row = row_at(a, at, stride, b, from, across, r);
-        r += 1;
-        if left <= row {
-            return Ceiled {
-                sad: ceiling,
-                rows: r as u32,
-            };
-        }
-        left -= row;
-    }
-    Ceiled {
-        sad: ceiling - left,
-        rows: 16,
-    }
+    let i = at + r * stride;
+    let j = from + r * across;
+    sad::<N>(&a[i..i + N], &b[j..j + N])
 }
 
-// The same, by the places of the blocks in their planes.
+// The SAD of two blocks of 16 by 16 up to a ceiling, by the places of the blocks in their planes.
 fn placed_sad(
     bytes: &[u8],
     start: usize,
@@ -294,15 +255,10 @@ fn placed_sad(
     ensures { CeiledIs (row_apart centre.now (y * columns + x) columns
         bytes.now (start + top * stride + left) stride) 16 ceiling result }
 {
-    inner_sad(
-        centre,
-        y * columns + x,
-        columns,
-        bytes,
-        start + top * stride + left,
-        stride,
-        ceiling,
-    )
+    let at = y * columns + x;
+    let from = start + top * stride + left;
+    let by_row = |r| row_at::<16>(centre, at, columns, bytes, from, stride, r);
+    up_to(16, ceiling, by_row)
 }
 
 // The SAD of a block of 16 by 16 up to a ceiling: in bounds, from the rows of the plane; else row by row, as `edge_sad` does.
@@ -320,14 +276,12 @@ fn square_sad(
     requires rows_in_bounds { p.columns * p.rows ≤ length centre.now }
     ensures { CeiledIs (luma_row centre.now bytes.now p b d) b.rows ceiling result }
 {
-    if runs_inside(b.x, 16, d.dx, p.columns) {
-        if runs_inside(b.y, 16, d.dy, p.rows) {
-            let left = edge(b.x, d.dx, p.columns);
-            let top = edge(b.y, d.dy, p.rows);
-            return placed_sad(
-                bytes, p.start, p.stride, left, top, centre, p.columns, b.x, b.y, ceiling,
-            );
-        }
+    if runs_inside(b.x, 16, d.dx, p.columns) && runs_inside(b.y, 16, d.dy, p.rows) {
+        let left = edge(b.x, d.dx, p.columns);
+        let top = edge(b.y, d.dy, p.rows);
+        return placed_sad(
+            bytes, p.start, p.stride, left, top, centre, p.columns, b.x, b.y, ceiling,
+        );
     }
     edge_sad(bytes, p, b, d, centre, ceiling)
 }
@@ -347,10 +301,8 @@ pub(crate) fn block_sad(
     requires rows_in_bounds { p.columns * p.rows ≤ length centre.now }
     ensures { CeiledIs (luma_row centre.now bytes.now p b d) b.rows ceiling result }
 {
-    if b.columns == 16 {
-        if b.rows == 16 {
-            return square_sad(bytes, p, b, d, centre, ceiling);
-        }
+    if b.columns == 16 && b.rows == 16 {
+        return square_sad(bytes, p, b, d, centre, ceiling);
     }
     edge_sad(bytes, p, b, d, centre, ceiling)
 }
@@ -369,79 +321,12 @@ pub(crate) fn still_sad(
     requires rows_in_bounds { p.columns * p.rows ≤ length centre.now }
     ensures { CeiledIs (luma_row centre.now bytes.now p b still) b.rows ceiling result }
 {
-    if b.columns == 16 {
-        if b.rows == 16 {
-            return placed_sad(
-                bytes, p.start, p.stride, b.x, b.y, centre, p.columns, b.x, b.y, ceiling,
-            );
-        }
+    if b.columns == 16 && b.rows == 16 {
+        return placed_sad(
+            bytes, p.start, p.stride, b.x, b.y, centre, p.columns, b.x, b.y, ceiling,
+        );
     }
-    edge_sad(bytes, p, b, Displacement { dx: 0, dy: 0 }, centre, ceiling)
-}
-
-// The SAD of two rows of 8.
-fn sad8(a: &[u8], b: &[u8]) -> u32
-    requires { (length a.now ≡ 8) × (length b.now ≡ 8) }
-    ensures { result ≡ sum_below (row_distance a.now b.now) 8 }
-{
-    let mut sum: u32 = 0;
-    let mut k = 0;
-    while k < 8 {
-        sum += difference(a[k], b[k]);
-        k += 1;
-    }
-    sum
-}
-
-// The SAD of row r of two blocks of 8 columns.
-fn eight_at(
-    a: &[u8],
-    at: usize,
-    stride: usize,
-    b: &[u8],
-    from: usize,
-    across: usize,
-    r: usize,
-) -> u32
-    requires { (at + r * stride + 8 ≤ length a.now) × (from + r * across + 8 ≤ length b.now) }
-    ensures { result ≡ eight_apart a.now at stride b.now from across r }
-{
-    let i = at + r * stride;
-    let j = from + r * across;
-    sad8(&a[i..i + 8], &b[j..j + 8])
-}
-
-// The SAD of two blocks of 8 columns and n rows up to a ceiling.
-pub(crate) fn eight_sad(
-    a: &[u8],
-    at: usize,
-    stride: usize,
-    b: &[u8],
-    from: usize,
-    across: usize,
-    n: usize,
-    ceiling: u32,
-) -> Ceiled
-    requires { ((r : ℕ) → r < n → (at + r * stride + 8 ≤ length a.now) × (from + r * across + 8 ≤ length b.now)) × (n ≤ 16) }
-    ensures { CeiledIs (eight_apart a.now at stride b.now from across) n ceiling result }
-{
-    let mut left = ceiling;
-    let mut r: usize = 0;
-    while r < n {
-        let row = eight_at(a, at, stride, b, from, across, r);
-        r += 1;
-        if left <= row {
-            return Ceiled {
-                sad: ceiling,
-                rows: r as u32,
-            };
-        }
-        left -= row;
-    }
-    Ceiled {
-        sad: ceiling - left,
-        rows: n as u32,
-    }
+    edge_sad(bytes, p, b, STILL, centre, ceiling)
 }
 
 // The SAD of a block of a plane that stands packed from `at` on and the displaced block of another frame's, up to a ceiling: 8
@@ -462,24 +347,16 @@ pub(crate) fn copied_sad(
     ensures { CeiledIs (sad_row (sample_at (packed_plane at p.columns p.rows out.now)) (displaced_by d (sample_at
         (plane_in bytes.now p))) b) b.rows ceiling result }
 {
-    if b.columns == 8 {
-        if runs_inside(b.x, 8, d.dx, p.columns) {
-            if runs_inside(b.y, b.rows, d.dy, p.rows) {
-                let left = edge(b.x, d.dx, p.columns);
-                let top = edge(b.y, d.dy, p.rows);
-                let from = p.start + top * p.stride + left;
-                return eight_sad(
-                    out,
-                    at + b.y * p.columns + b.x,
-                    p.columns,
-                    bytes,
-                    from,
-                    p.stride,
-                    b.rows,
-                    ceiling,
-                );
-            }
-        }
+    if b.columns == 8
+        && runs_inside(b.x, 8, d.dx, p.columns)
+        && runs_inside(b.y, b.rows, d.dy, p.rows)
+    {
+        let left = edge(b.x, d.dx, p.columns);
+        let top = edge(b.y, d.dy, p.rows);
+        let i = at + b.y * p.columns + b.x;
+        let j = p.start + top * p.stride + left;
+        let by_row = |r| row_at::<8>(out, i, p.columns, bytes, j, p.stride, r);
+        return up_to(b.rows, ceiling, by_row);
     }
     edge_sad(bytes, p, b, d, &out[at..], ceiling)
 }

@@ -38,12 +38,12 @@ fn try_at(
     }
 }
 
-// v, less one step, and as many steps more as the place says.
+// v, less one step, and as many steps more as the place says. `motion_search` has its own, for the numbers of a vector.
 fn step_to(v: i32, place: u32, step: u32) -> i32
     requires { (place ≤ 2) × (step ≤ 8) × (above v ≤ 15) × (below v ≤ 15) }
     ensures { result ≡ step_to v place step }
 {
-    v + ((place * step) as i32) - (step as i32)
+    v + (place * step) as i32 - step as i32
 }
 
 // The neighbours of a displacement, at the distance of a step, in raster order.
@@ -54,7 +54,7 @@ fn next_to(d: Displacement, step: u32, k: u32) -> Displacement
     let place = if k < 4 { k } else { k + 1 };
     let dx = step_to(d.dx, place % 3, step);
     let dy = step_to(d.dy, place / 3, step);
-    Displacement { dx: dx, dy: dy }
+    Displacement { dx, dy }
 }
 
 // One step: the eight neighbours of the best at its beginning.
@@ -69,10 +69,8 @@ fn round(bytes: &[u8], p: PlaneNumbers, b: Block, centre: &[u8], best: Motion, s
 {
     let from = best.displacement;
     let mut found = best;
-    let mut k: u32 = 0;
-    while k < 8 {
+    for k in 0..8 {
         found = try_at(bytes, p, b, centre, found, next_to(from, step, k));
-        k += 1;
     }
     found
 }
@@ -85,14 +83,13 @@ pub(crate) fn block_search(bytes: &[u8], p: PlaneNumbers, b: Block, centre: &[u8
     ensures { Measured (luma_cost centre.now bytes.now p b)
         (block_search (luma_cost centre.now bytes.now p b)) result }
 {
-    let none = Displacement { dx: 0, dy: 0 };
     let first = sad::still_sad(bytes, p, b, centre, NO_CEILING);
-    let m0 = Motion {
-        displacement: none,
+    let mut best = Motion {
+        displacement: sad::STILL,
         sad: first.sad,
     };
-    let m1 = round(bytes, p, b, centre, m0, 8);
-    let m2 = round(bytes, p, b, centre, m1, 4);
-    let m3 = round(bytes, p, b, centre, m2, 2);
-    round(bytes, p, b, centre, m3, 1)
+    for step in [8, 4, 2, 1] {
+        best = round(bytes, p, b, centre, best, step);
+    }
+    best
 }

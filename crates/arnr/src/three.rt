@@ -21,7 +21,8 @@ fn limit(b: Block) -> u32
     (13 * (b.columns * b.rows)) as u32
 }
 
-// Whether plane k of a block passes at its copied samples.
+// Whether plane k of a block passes at its copied samples. Not one function with `filtered_passes`, over a closure that measures: its
+// contract would be longer than the lines that the two share.
 fn copied_passes(bytes: &[u8], f: Frame, k: usize, b: Block, d: Displacement, out: &[u8]) -> bool
     requires k_bound { (k < 3) × Whole bytes.now f }
     requires lies { Lies b f.width f.height }
@@ -62,24 +63,8 @@ fn cut_sad(block: &[u8], p: PlaneNumbers, b: Block, at: usize, out: &[u8], ceili
     ensures { CeiledIs (sad_row (sample_at (packed_plane at p.columns p.rows out.now)) (block_samples block.now b.x b.y) b)
         b.rows ceiling result }
 {
-    let high = b.rows;
-    let mut left = ceiling;
-    let mut r: usize = 0;
-    while r < high {
-        let row = line_sad(block, p, b, r, at, out);
-        r += 1;
-        if left <= row {
-            return Ceiled {
-                sad: ceiling,
-                rows: r as u32,
-            };
-        }
-        left -= row;
-    }
-    Ceiled {
-        sad: ceiling - left,
-        rows: high as u32,
-    }
+    let by_row = |r| line_sad(block, p, b, r, at, out);
+    sad::up_to(b.rows, ceiling, by_row)
 }
 
 // The SAD of a block of 8 by 8, as much of it as b covers, up to a ceiling.
@@ -97,11 +82,10 @@ fn filtered_sad(
     ensures { CeiledIs (sad_row (sample_at (packed_plane at p.columns p.rows out.now)) (block_samples block.now b.x b.y) b)
         b.rows ceiling result }
 {
-    if b.columns == 8 {
-        if 0 < b.rows {
-            let from = at + b.y * p.columns + b.x;
-            return sad::eight_sad(out, from, p.columns, block, 0, 8, b.rows, ceiling);
-        }
+    if b.columns == 8 && 0 < b.rows {
+        let from = at + b.y * p.columns + b.x;
+        let by_row = |r| sad::row_at::<8>(out, from, p.columns, block, 0, 8, r);
+        return sad::up_to(b.rows, ceiling, by_row);
     }
     cut_sad(block, p, b, at, out, ceiling)
 }
@@ -139,13 +123,8 @@ pub(crate) fn copies_pass(
         (displacement_in 1 d) (picture_of bytes.now f 1)) (block_in 1 b) && passes_by (packed_picture f.width f.height
         out.now 2) (displaced_by (displacement_in 2 d) (picture_of bytes.now f 2)) (block_in 2 b)) true }
 {
-    if choice.three_planes {
-        if copied_passes(bytes, f, 1, b, d, out) {
-            return copied_passes(bytes, f, 2, b, d, out);
-        }
-        return false;
-    }
-    true
+    !choice.three_planes
+        || (copied_passes(bytes, f, 1, b, d, out) && copied_passes(bytes, f, 2, b, d, out))
 }
 
 // Whether U and V of a block pass at their filtered samples, where the choice asks them.
@@ -164,11 +143,5 @@ pub(crate) fn squares_pass(
         u.now (block_in 1 b).x (block_in 1 b).y) (block_in 1 b) && passes_by (packed_picture f.width f.height out.now 2)
         (block_samples v.now (block_in 2 b).x (block_in 2 b).y) (block_in 2 b)) true }
 {
-    if choice.three_planes {
-        if filtered_passes(u, f, 1, b, out) {
-            return filtered_passes(v, f, 2, b, out);
-        }
-        return false;
-    }
-    true
+    !choice.three_planes || (filtered_passes(u, f, 1, b, out) && filtered_passes(v, f, 2, b, out))
 }

@@ -1,11 +1,5 @@
 -- The bilinear set: a sample by eighths, and what the laws over any filter set ask of it. Assumes nothing.
-use mathlib.Core.List.{List}
-use mathlib.Core.Path.{◌≡◌, refl, sym, ap, ◌∙◌}
-use Prim.Native.Nat.{ℕ, ◌+◌, ◌-◌, ◌*◌, ◌/◌, ◌≤◌, ◌<◌, min, max}
-use native.Mathlib.Nat.{mul_assoc, mul-le-mul, add-mul}
-use native.Mathlib.Omega.{arith}
-use lib.ListN.{get_or}
-use lib.IntN.{pos, ◌+ℤ◌}
+use Rattle.std.proofs.Common.{List, ◌≡◌, refl, sym, ap, ◌∙◌, ℕ, ◌+◌, ◌-◌, ◌*◌, ◌/◌, ◌≤◌, ◌<◌, min, max, mul_assoc, mul-le-mul, add-mul, arith, get_or, pos, ◌+ℤ◌}
 use Rattle.laws.specs.Signed.{floor_div}
 use Rattle.prediction.specs.Filter.{products, filtered, bilinear}
 use Rattle.filters.specs.Sets.{Identity, TwoTaps}

@@ -17,3 +17,7 @@ bytes_of right halo i = min (columns_of right halo i) 255
 pub record Copying (right : ℕ) (halo out : List ℕ) (i : ℕ) : Type 0 where
   pub samples : Filling (columns_of right halo) 272 out i
   pub bytes : Filling (bytes_of right halo) 272 out i
+
+-- sample i weighed with the one that stands `at` further in `next`
+abbrev pub weighed_of : ℕ → ℕ → List ℕ → List ℕ → ℕ → ℕ
+weighed_of s at samples next i = mean_of s (get_or samples i 0) (get_or next (i + at) 0)

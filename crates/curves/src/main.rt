@@ -11,29 +11,22 @@ use std::io;
 fn reach(strength: u8) -> usize
     ensures { result ≡ reach_of (weight_read strength) 256 }
 {
-    let mut e: usize = 256;
-    while 0 < e {
-        e -= 1;
+    let mut reach = 0;
+    for e in 0..256usize {
         if 0 < weights::weight(strength, e as u8) {
-            return e;
+            reach = e;
         }
     }
-    0
-}
-
-fn print_line(rt: &impl Print, strength: u8) -> io::Result<()> {
-    println!(rt;
-        "{strength} {} {}",
-        weights::scale_of(strength),
-        reach(strength)
-    )
+    reach
 }
 
 fn main(rt: HostRuntime) -> io::Result<()> {
-    print_line(&rt, 1)?;
-    print_line(&rt, 2)?;
-    print_line(&rt, 3)?;
-    print_line(&rt, 4)?;
-    print_line(&rt, 5)?;
-    print_line(&rt, 6)
+    for strength in 1..=6 {
+        println!(rt;
+            "{strength} {} {}",
+            weights::scale_of(strength),
+            reach(strength)
+        )?;
+    }
+    Ok(())
 }

@@ -1,23 +1,16 @@
 -- From the checks' outcome to the builder's: what is refused, and what an accepted call answers and leaves. Assumes nothing.
-use mathlib.Core.Path.{◌≡◌, refl, sym, ap, ◌∙◌}
-use mathlib.Core.Bool.{Bool, true, false, cond}
-use mathlib.Core.List.{List, [], ◌∷◌}
-use Prim.Native.Nat.{ℕ, zero, suc, ◌<◌}
-use native.Mathlib.Omega.{arith}
-use lib.ListN.{get_or}
+use Rattle.std.specs.Prelude.{Result, Ok, Err}
+use Rattle.std.proofs.Common.{◌≡◌, refl, sym, ap, ◌∙◌, Bool, true, false, cond, List, [], ◌∷◌, ℕ, zero, suc, ◌<◌, arith, get_or}
 use Rattle.laws.specs.Outcome.{Outcome, refused, accepted, Line, first_of, after}
 use Rattle.laws.proofs.Outcome as laws
 use Rattle.window.specs.declared.Size.{Size}
 use Rattle.window.specs.declared.Refusal.{Refusal}
 use Rattle.window.specs.declared.Refusal.TheVariants.{NoCentre, TooManyFrames, BadSize, OtherSize, CapTooHigh, PlaneUnfit, ShortOutput, ShortWorking}
-use Rattle.window.specs.declared.Checked.{Checked}
-use Rattle.window.specs.declared.Checked.TheVariants as checked
 use Rattle.window.specs.Layout.{packed_size}
 use Rattle.window.specs.Frames.{frame_at, frame_count}
 use Rattle.window.specs.Refusals.{build_lines, refusal_outcome, centre_of, checks, checked_outcome}
 use Rattle.window.proofs.Built as window
 use Rattle.denoiser.specs.declared.Built.{Built}
-use Rattle.denoiser.specs.declared.BuildAnswer.TheVariants.{Done, Refused}
 use Rattle.denoiser.specs.declared.Choice.{Choice}
 use Rattle.denoiser.specs.Chroma.{rule_of}
 use Rattle.denoiser.specs.Demand.{Held, Demand3}
@@ -41,37 +34,33 @@ retag_lines {A} {B} (l ∷ ls) a b = by l.test (retag_lines ls a b)
     by true e = refl
     by false e = e
 
+-- a refusal has a number and values, whatever an accepted call answers
+record Refused (r : Refusal) : Type 0 where
+  number : ℕ
+  values : List ℕ
+  sized : refusal_outcome {A = Size} r ≡ refused number values
+  built : refusal_outcome {A = Built} r ≡ refused number values
+
+refused_of : (r : Refusal) → Refused r
+refused_of NoCentre = record { number = _; values = _; sized = refl; built = refl }
+refused_of TooManyFrames = record { number = _; values = _; sized = refl; built = refl }
+refused_of (BadSize s) = record { number = _; values = _; sized = refl; built = refl }
+refused_of (OtherSize s c) = record { number = _; values = _; sized = refl; built = refl }
+refused_of (CapTooHigh g) = record { number = _; values = _; sized = refl; built = refl }
+refused_of (PlaneUnfit g) = record { number = _; values = _; sized = refl; built = refl }
+refused_of ShortOutput = record { number = _; values = _; sized = refl; built = refl }
+refused_of ShortWorking = record { number = _; values = _; sized = refl; built = refl }
+
 retag_refusal : (r : Refusal) (b : Built) → retag b (refusal_outcome {A = Size} r) ≡ refusal_outcome {A = Built} r
 unfolding retag
-retag_refusal NoCentre b = refl
-retag_refusal TooManyFrames b = refl
-retag_refusal (BadSize s) b = refl
-retag_refusal (OtherSize s c) b = refl
-retag_refusal (CapTooHigh g) b = refl
-retag_refusal (PlaneUnfit g) b = refl
-retag_refusal ShortOutput b = refl
-retag_refusal ShortWorking b = refl
+retag_refusal r b = let k = refused_of r in rw (k.sized, k.built) refl
 
 -- on a refusal a slice is as before
 after-refusal : (r : Refusal) (old new : List ℕ) → old ≡ after (refusal_outcome {A = Built} r) old new
-after-refusal NoCentre old new = refl
-after-refusal TooManyFrames old new = refl
-after-refusal (BadSize s) old new = refl
-after-refusal (OtherSize s c) old new = refl
-after-refusal (CapTooHigh g) old new = refl
-after-refusal (PlaneUnfit g) old new = refl
-after-refusal ShortOutput old new = refl
-after-refusal ShortWorking old new = refl
+after-refusal r old new = let k = refused_of r in rw k.built refl
 
 never : (r : Refusal) (a : Built) → refusal_outcome {A = Built} r ≡ accepted a → ⊥
-never NoCentre a e = laws.never 1 [] a e
-never TooManyFrames a e = laws.never 2 [] a e
-never (BadSize s) a e = laws.never 3 _ a e
-never (OtherSize s c) a e = laws.never 4 _ a e
-never (CapTooHigh g) a e = laws.never 29 _ a e
-never (PlaneUnfit g) a e = laws.never 5 _ a e
-never ShortOutput a e = laws.never 6 [] a e
-never ShortWorking a e = laws.never 7 [] a e
+never r a e = let k = refused_of r in laws.never k.number k.values a (sym k.built ∙ e)
 
 module _ (o : Choice) (b : BuildInput) where
   refused-outcome : (r : Refusal) → refusal_outcome r ≡ checks (given_of b) → refusal_outcome r ≡ outcome_of (rule_of o) b
@@ -80,7 +69,7 @@ module _ (o : Choice) (b : BuildInput) where
       sym (retag_refusal r (built_of (rule_of o) b.request)) ∙ ap (retag (built_of (rule_of o) b.request)) e
       ∙ retag_lines (build_lines (given_of b)) _ (built_of (rule_of o) b.request)
 
-  pub refused_is : (c : Checked) (r : Refusal) → checked_outcome c ≡ checks (given_of b) → c ≡ checked.Refused r → BuildBy (rule_of o) b (Refused r) b.lent
+  pub refused_is : (c : Result Size Refusal) (r : Refusal) → checked_outcome c ≡ checks (given_of b) → c ≡ Err r → BuildBy (rule_of o) b (Err r) b.lent
   unfolding output_after working_after
   refused_is c r e k =
       let e' = refused-outcome r (sym (ap checked_outcome k) ∙ e) in
@@ -95,7 +84,7 @@ module _ (o : Choice) (b : BuildInput) where
             };
       }
 
-  module _ (c : Checked) (s : Size) (e : checked_outcome c ≡ checks (given_of b)) (k : c ≡ checked.Legal s) where
+  module _ (c : Result Size Refusal) (s : Size) (e : checked_outcome c ≡ checks (given_of b)) (k : c ≡ Ok s) where
     facts : window.Built (given_of b) s
     facts = window.built (given_of b) s (sym e ∙ ap checked_outcome k)
 
@@ -146,7 +135,7 @@ module _ (o : Choice) (b : BuildInput) where
           demand_3 (rule_of o (scene_of b.request)) (window_of b.request) (window_fair o b.request s.width s.height legal byte) (window-byte o b.request s.width s.height legal byte)
           b.lent held (rw t at made.output) (rw t at made.sums) (rw t at made.weights)
 
-      pub done_is : BuildBy (rule_of o) b (Done (record { width = s.width; height = s.height; accepted = n })) held
+      pub done_is : BuildBy (rule_of o) b (Ok (record { width = s.width; height = s.height; accepted = n })) held
       unfolding output_after working_after
       done_is =
           let e' = done-outcome in

@@ -1,11 +1,5 @@
 -- The SAD of a block up to a ceiling, and a block search that is cut short by the best so far. Assumes nothing.
-use mathlib.Core.Path.{◌≡◌, refl, sym, ap, ◌∙◌}
-use mathlib.Core.List.{List}
-use Prim.Native.Nat.{ℕ, ◌+◌, ◌*◌, ◌≤◌, ◌<◌, min}
-use native.Mathlib.Nat.{add-mul}
-use native.Mathlib.Omega.{arith}
-use lib.IntN.{ℤ, pos, ◌+ℤ◌}
-use lib.ListN.{get_or}
+use Rattle.std.proofs.Common.{◌≡◌, refl, sym, ap, ◌∙◌, List, ℕ, ◌+◌, ◌*◌, ◌≤◌, ◌<◌, min, add-mul, arith, ℤ, pos, ◌+ℤ◌, get_or}
 use Rattle.laws.specs.Sums.{sum_below}
 use Rattle.laws.proofs.Signed.{sum}
 use Rattle.laws.proofs.Sums.{sum_same, sum-most}

@@ -1,13 +1,8 @@
 -- Claims of document 01 on the grid, the block search, chroma halves, acceptance and shares, each a law; how large sums and
 -- totals can be; and the claims of request 7 on caps and of request 6 on half samples. Assumes nothing.
-use mathlib.Core.Path.{◌≡◌, refl, sym, ap, ◌∙◌, fun_ext, subst}
-use mathlib.Core.Bool.{true, false}
-use mathlib.Core.List.{List}
-use Prim.Native.Nat.{ℕ, zero, suc, ◌+◌, ◌*◌, ◌/◌, ◌≤◌, ◌<◌, min}
-use native.Mathlib.Omega.{arith}
-use borrow.Author.Tests.{lt-ltb, le-ltb}
-use lib.IntN.{ℤ, pos}
-use lib.ListN.{length, get_or}
+use Rattle.std.specs.Prelude.{Result, Ok}
+use Rattle.std.proofs.Common.{◌≡◌, refl, sym, ap, ◌∙◌, subst, true, false, List, ℕ, zero, suc, ◌+◌, ◌*◌, ◌/◌, ◌≤◌, ◌<◌, min, arith, lt-ltb, le-ltb, ℤ, pos, length, get_or}
+use Rattle.std.proofs.Math.Path.{fun_ext}
 use Rattle.laws.specs.Signed.{above, below}
 use Rattle.laws.proofs.Signed.{quot}
 use Rattle.laws.specs.Sums.{sum_below, sum_over}
@@ -17,15 +12,15 @@ use Rattle.prediction.specs.Plane.{sample_at}
 use Rattle.prediction.specs.Samples.{distance}
 use Rattle.weights.specs.Weights.{weight_of, weight_read, capped_weight}
 use Rattle.weights.proofs.Weights.{read_some, capped}
+use Rattle.window.specs.declared.Refusal.{Refusal}
 use Rattle.window.specs.declared.Frame.{Frame}
 use Rattle.window.specs.declared.Size.{Size}
-use Rattle.window.specs.declared.Checked.TheVariants.{Legal}
 use Rattle.window.specs.Layout.{side_of}
 use Rattle.window.specs.Frames.{frame_count, frame_at, plane_of}
 use Rattle.window.specs.Refusals.{checks}
 use Rattle.window.proofs.Caps as window
 use Rattle.window.proofs.Caps.{plain_lines}
-use Rattle.denoiser.specs.declared.BuildAnswer.{BuildAnswer}
+use Rattle.denoiser.specs.declared.Built.{Built}
 use Rattle.denoiser.specs.declared.Block.{Block}
 use Rattle.denoiser.specs.declared.Displacement.{Displacement}
 use Rattle.denoiser.specs.Grid.{grid_block, grid_side, block_in, unit_of}
@@ -107,14 +102,14 @@ module _ (o : Choice) (b : BuildInput) (s : Size) (e : checks (given_of b) ≡ a
   pub total-limit : total_at (rule_of o (scene_of b.request)) (window_of b.request) k x y ≤ 16384
   unfolding window_of
   total-limit =
-      let l = legal o b (Legal s) s (sym e) refl in
+      let l = legal o b (Ok s) s (sym e) refl in
       total-most (rule_of o (scene_of b.request)) (window_of b.request) k x y (window_fair o b.request s.width s.height l byte)
       (window-byte o b.request s.width s.height l byte k x y) (window-few o b.request s.width s.height l byte)
 
   pub sum-limit : sum_at (rule_of o (scene_of b.request)) (window_of b.request) k x y ≤ 4177920
   unfolding window_of
   sum-limit =
-      let l = legal o b (Legal s) s (sym e) refl in
+      let l = legal o b (Ok s) s (sym e) refl in
       sum-most (rule_of o (scene_of b.request)) (window_of b.request) k x y (window_fair o b.request s.width s.height l byte)
       (window-byte o b.request s.width s.height l byte k x y) (window-few o b.request s.width s.height l byte)
 
@@ -227,7 +222,7 @@ module _ (o : Choice) (p q : Request) (a : CapsApart p q) where
       }
 
 -- where every cap is 16, what the builder promises is document 01's: the answer, the three slices and demand 3 are those without caps
-pub every-cap_16 : (b : BuildInput) (r : BuildAnswer) (held : Held)
+pub every-cap_16 : (b : BuildInput) (r : Result Built Refusal) (held : Held)
     → ((g : ℕ) → g < frame_count b.request.numbers → (frame_at b.request.numbers g).cap ≡ 16)
     → BuildBy arnr_rule b r held → BuildBy plain_rule b r held
 unfolding window_of arnr_rule plain_rule
@@ -255,7 +250,7 @@ pub whole_choice : (s : Scene) → rule_of whole_samples s ≡ arnr_rule s
 unfolding rule_of arnr_rule chosen_sample chosen_accepts displaced_at
 whole_choice s = refl
 
-pub whole-build : (b : BuildInput) (r : BuildAnswer) (held : Held) → BuildBy (rule_of whole_samples) b r held → BuildBy arnr_rule b r held
+pub whole-build : (b : BuildInput) (r : Result Built Refusal) (held : Held) → BuildBy (rule_of whole_samples) b r held → BuildBy arnr_rule b r held
 whole-build b r held = subst (λ (rule : Scene → Rule Other). BuildBy rule b r held) (fun_ext whole_choice)
 
 -- under both rules Y is the same: shares, totals, sums and denoised samples; the accepted counts, the displacements and the weights are the same
@@ -297,7 +292,7 @@ module _ (b : BuildInput) (byte : (i : ℕ) → get_or b.request.bytes i 0 < 256
       (λ u v. let h = picture-byte b.request.bytes (frame_at b.request.numbers g) byte (suc k) u v in omega arith)
       ).old k (pos x) (pos y)
 
-  pub even_same : (r : BuildAnswer) (held : Held) → BuildBy half_rule b r held → BuildBy arnr_rule b r held
+  pub even_same : (r : Result Built Refusal) (held : Held) → BuildBy half_rule b r held → BuildBy arnr_rule b r held
   unfolding window_of rule_of arnr_rule chosen_accepts
   even_same r held = build_alike half_rule arnr_rule b alike r held
     where
@@ -308,5 +303,5 @@ module _ (b : BuildInput) (byte : (i : ℕ) → get_or b.request.bytes i 0 < 256
           record { accepts = λ i j hi hj. refl; sample = λ k x y hx hy. even_sample g k x y l other hx hy; weight = λ e. refl })
 
 -- where the centre is only cropped, both calls answer and leave the same, under any rule
-pub crop-same : (b : BuildInput) (r : BuildAnswer) (held : Held) → cropped b.request ≡ true → BuildBy half_rule b r held → BuildBy arnr_rule b r held
+pub crop-same : (b : BuildInput) (r : Result Built Refusal) (held : Held) → cropped b.request ≡ true → BuildBy half_rule b r held → BuildBy arnr_rule b r held
 crop-same b r held crop = build-cropped half_rule arnr_rule b crop r held

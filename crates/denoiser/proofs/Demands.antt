@@ -1,9 +1,5 @@
 -- Demand 3 over any rule: what the filled slices say of each sample. Assumes nothing.
-use mathlib.Core.Path.{◌≡◌, refl, sym, ap, ◌∙◌}
-use mathlib.Core.List.{List, [], ◌∷◌}
-use Prim.Native.Nat.{ℕ, ◌+◌, ◌*◌, ◌/◌, ◌≤◌, ◌<◌}
-use native.Mathlib.Omega.{arith}
-use lib.ListN.{length}
+use Rattle.std.proofs.Common.{◌≡◌, refl, sym, ap, ◌∙◌, List, [], ◌∷◌, ℕ, ◌+◌, ◌*◌, ◌/◌, ◌≤◌, ◌<◌, arith, length}
 use Rattle.laws.specs.Sums.{sum_over}
 use Rattle.prediction.specs.Samples.{distance}
 use Rattle.weights.specs.Weights.{weight_read}

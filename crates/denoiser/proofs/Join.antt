@@ -1,14 +1,10 @@
 -- What is made of a frame depends on the centre only by its samples in the planes, and on nothing but the frame, the centre, the size and the strength.
 -- This joins what the code reads, the packed copy of the centre and the lent curve, to the definitions. Assumes nothing.
-use mathlib.Core.Path.{◌≡◌, sym, ap, ◌∙◌, fun_ext}
-use mathlib.Core.Bool.{Bool}
-use mathlib.Core.List.{List}
-use Prim.Native.Nat.{ℕ, zero, suc, ◌+◌, ◌*◌, ◌/◌, ◌^◌, ◌≤◌, ◌<◌, min}
-use native.Mathlib.Nat.{mul-le-mul, pow-le-pow_right}
-use native.Mathlib.Omega.{arith}
-use native.Mathlib.Decide.{dec_lt}
-use lib.IntN.{pos}
-use lib.ListN.{get_or, get_or-eq_default}
+use Rattle.std.proofs.Common.{◌≡◌, sym, ap, ◌∙◌, Bool, List, ℕ, zero, suc, ◌+◌, ◌*◌, ◌/◌, ◌^◌, ◌≤◌, ◌<◌, min, mul-le-mul, arith, pos, get_or}
+use Rattle.std.proofs.Math.Decide.{dec_lt}
+use Rattle.std.proofs.Math.ListN.{get_or-eq_default}
+use Rattle.std.proofs.Math.Nat.{pow-le-pow_right}
+use Rattle.std.proofs.Math.Path.{fun_ext}
 use Rattle.laws.specs.Sums.{sum_below}
 use Rattle.laws.proofs.Sums.{sum_same}
 use Rattle.laws.specs.Tabulate.{tabulate}

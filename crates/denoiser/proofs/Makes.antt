@@ -1,13 +1,5 @@
 -- What an accepted call leaves, from what its parts leave in the first P entries of the slices. Assumes nothing.
-use mathlib.Core.Path.{◌≡◌, refl, ◌∙◌, subst}
-use mathlib.Core.Bool.{Bool, true, false, ◌||◌}
-use mathlib.Core.List.{List, ◌++◌}
-use Prim.Native.Nat.{ℕ}
-use lib.Dec.{eqb}
-use lib.IntN.{pos}
-use lib.ListN.{length, drop}
-use lib.Seq.{drop_at}
-use borrow.Author.Tests.{eq-eqb, ne_eqb}
+use Rattle.std.proofs.Common.{◌≡◌, refl, ◌∙◌, subst, Bool, true, false, ◌||◌, List, ◌++◌, ℕ, eqb, pos, length, drop, drop_at, eq-eqb, ne_eqb}
 use Rattle.window.specs.Layout.{packed_size}
 use Rattle.window.specs.Frames.{frame_at, frame_count}
 use Rattle.denoiser.specs.Window.{Other, Scene, Rule, centre_at}

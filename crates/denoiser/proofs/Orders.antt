@@ -1,16 +1,9 @@
 -- Frame order does not matter (request 11): two accepted calls of one builder, over any rule, on the same frames in any order.
 -- Assumes nothing.
-use mathlib.Core.Path.{◌≡◌, refl, sym, ap, ◌∙◌, fun_ext}
-use mathlib.Core.Bool.{Bool, false, cond, ◌||◌}
+use Rattle.std.specs.Prelude.{Result, Ok}
+use Rattle.std.proofs.Common.{◌≡◌, refl, sym, ap, ◌∙◌, Bool, false, cond, ◌||◌, List, ℕ, ◌+◌, ◌*◌, ◌<◌, le_refl, arith, leb-false, eqb, take, take_at}
+use Rattle.std.proofs.Math.Path.{fun_ext}
 use mathlib.Core.List.Perm
-use mathlib.Core.List.{List}
-use Prim.Native.Nat.{ℕ, ◌+◌, ◌*◌, ◌<◌}
-use native.Mathlib.Nat.{le_refl}
-use native.Mathlib.Omega.{arith}
-use borrow.Author.Tests.{leb-false}
-use lib.Dec.{eqb}
-use lib.ListN.{take}
-use lib.Seq.{take_at}
 use Rattle.laws.specs.Front.{list_of}
 use Rattle.laws.specs.Sums.{sum_over}
 use Rattle.laws.specs.Outcome.{accepted}
@@ -19,13 +12,12 @@ use Rattle.laws.proofs.Orders.{sum_order, sum-listed}
 use Rattle.laws.proofs.Front.{after-accepted}
 use Rattle.laws.proofs.Outcome.{skipped, answered}
 use Rattle.weights.specs.Blend.{total_weight, weighted_sum, denoised}
+use Rattle.window.specs.declared.Refusal.{Refusal}
 use Rattle.window.specs.declared.Frame.{Frame}
 use Rattle.window.specs.Layout.{packed_size}
 use Rattle.window.specs.Frames.{frame_count, frame_at}
 use Rattle.window.specs.Refusals.{build_lines}
 use Rattle.denoiser.specs.declared.Built.{Built}
-use Rattle.denoiser.specs.declared.BuildAnswer.{BuildAnswer}
-use Rattle.denoiser.specs.declared.BuildAnswer.TheVariants.{Done}
 use Rattle.denoiser.specs.Window.{Other, Scene, Rule, centre_at, share_of, total_at, sum_at, denoised_at, accepted_in, accepted_blocks, arnr_rule}
 use Rattle.denoiser.specs.Chroma.{half_rule, three_rule}
 use Rattle.denoiser.specs.Pictures.{picture_of, other_of}
@@ -247,10 +239,10 @@ module _ (rule : Scene → Rule Other) (b c : BuildInput) (x y : Built) (held ke
 
 -- what is said of a builder by its promise: two calls that are accepted, whatever their lent slices hold and however long these are, on
 -- the same frames in any order, give the same build
-abbrev pub AnyOrder : (BuildInput → BuildAnswer → Held → Type 0) → Type 0
+abbrev pub AnyOrder : (BuildInput → Result Built Refusal → Held → Type 0) → Type 0
 AnyOrder Promise =
-    (b c : BuildInput) (r s : BuildAnswer) (held kept : Held) → Promise b r held → Promise c s kept → SameFrames b.request c.request
-    → (x y : Built) → r ≡ Done x → s ≡ Done y → SameBuild (cropped b.request) x y held kept
+    (b c : BuildInput) (r s : Result Built Refusal) (held kept : Held) → Promise b r held → Promise c s kept → SameFrames b.request c.request
+    → (x y : Built) → r ≡ Ok x → s ≡ Ok y → SameBuild (cropped b.request) x y held kept
 
 -- whatever the rule
 pub frame_order : (rule : Scene → Rule Other) → AnyOrder (BuildBy rule)
@@ -267,16 +259,16 @@ pub order_three : (half : Bool) → AnyOrder (BuildThree half)
 order_three half = frame_order (three_rule half)
 
 -- slices that held the same before the two calls hold the same after them, all entries, also where the centre is only cropped
-pub order_whole : (rule : Scene → Rule Other) (b c : BuildInput) (r s : BuildAnswer) (held kept : Held) → BuildBy rule b r held → BuildBy rule c s kept
-    → SameFrames b.request c.request → b.lent ≡ c.lent → (x y : Built) → r ≡ Done x → s ≡ Done y → held ≡ kept
+pub order_whole : (rule : Scene → Rule Other) (b c : BuildInput) (r s : Result Built Refusal) (held kept : Held) → BuildBy rule b r held → BuildBy rule c s kept
+    → SameFrames b.request c.request → b.lent ≡ c.lent → (x y : Built) → r ≡ Ok x → s ≡ Ok y → held ≡ kept
 order_whole rule b c r s held kept one other same lent x y done also =
     outcome-whole rule b c x y held kept (sym one.answer ∙ ap build_outcome done) (sym other.answer ∙ ap build_outcome also) one.slices other.slices same lent
 
 -- one list, and two centre indices whose records are equal
-pub order_index : (rule : Scene → Rule Other) (bytes numbers : List ℕ) (i j strength : ℕ) (lent given : Held) (r s : BuildAnswer) (held kept : Held)
+pub order_index : (rule : Scene → Rule Other) (bytes numbers : List ℕ) (i j strength : ℕ) (lent given : Held) (r s : Result Built Refusal) (held kept : Held)
     → BuildBy rule (record { request = asked bytes numbers i strength; lent = lent }) r held
     → BuildBy rule (record { request = asked bytes numbers j strength; lent = given }) s kept
-    → frame_at numbers i ≡ frame_at numbers j → (x y : Built) → r ≡ Done x → s ≡ Done y → SameBuild (cropped (asked bytes numbers i strength)) x y held kept
+    → frame_at numbers i ≡ frame_at numbers j → (x y : Built) → r ≡ Ok x → s ≡ Ok y → SameBuild (cropped (asked bytes numbers i strength)) x y held kept
 unfolding frame_list
 order_index rule bytes numbers i j strength lent given r s held kept one other e x y done also =
     let q = asked bytes numbers i strength in

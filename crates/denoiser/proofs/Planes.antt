@@ -1,13 +1,5 @@
 -- Where samples stand in the bytes and in packed lists. Assumes nothing.
-use mathlib.Core.Path.{◌≡◌, ap, ◌∙◌}
-use mathlib.Core.List.{List}
-use Prim.Native.Nat.{ℕ, zero, suc, pred, ◌+◌, ◌-◌, ◌*◌, ◌≤◌, ◌<◌, min}
-use native.Mathlib.Nat.{mul-le-mul_right}
-use native.Mathlib.Omega.{arith}
-use lib.IntN.{ℤ, pos, ◌+ℤ◌}
-use lib.ListN.{length, get_or}
-use mir.Syntax.{w32}
-use mir.Val.{SFits}
+use Rattle.std.proofs.Common.{◌≡◌, ap, ◌∙◌, List, ℕ, zero, suc, pred, ◌+◌, ◌-◌, ◌*◌, ◌≤◌, ◌<◌, min, mul-le-mul_right, arith, ℤ, pos, ◌+ℤ◌, length, get_or, w32, SFits}
 use Rattle.laws.proofs.Signed.{fits, quot}
 use Rattle.prediction.specs.Plane.{Plane, sample_at, nearest_in}
 use Rattle.window.specs.Layout.{side_of, offset_of, packed_size}

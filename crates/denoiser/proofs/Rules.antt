@@ -1,12 +1,7 @@
 -- Two rules that take each other frame of a window alike make the same of it: the promise under one is that under the other; and where
 -- the centre is only cropped, no rule is asked. Assumes nothing.
-use mathlib.Core.Path.{◌≡◌, refl, ap, ◌∙◌}
-use mathlib.Core.Bool.{Bool, true, false, cond}
-use mathlib.Core.List.{List, ◌++◌}
-use Prim.Native.Nat.{ℕ, zero, suc, ◌+◌, ◌*◌, ◌/◌, ◌%◌, ◌<◌}
-use native.Mathlib.Nat.{mod-lt, div-lt_iff_lt-mul}
-use native.Mathlib.Omega.{arith}
-use lib.ListN.{drop}
+use Rattle.std.specs.Prelude.{Result}
+use Rattle.std.proofs.Common.{◌≡◌, refl, ap, ◌∙◌, Bool, true, false, cond, List, ◌++◌, ℕ, zero, suc, ◌+◌, ◌*◌, ◌/◌, ◌%◌, ◌<◌, mod-lt, div-lt_iff_lt-mul, arith, drop}
 use Rattle.laws.specs.Outcome.{Outcome, first_of, after}
 use Rattle.laws.specs.Sums.{sum_over}
 use Rattle.laws.specs.Tabulate.{tabulate}
@@ -15,10 +10,10 @@ use Rattle.laws.proofs.Tabulate.{tabulate-same}
 use Rattle.laws.proofs.Each.{Each, each_map}
 use Rattle.prediction.specs.Samples.{distance}
 use Rattle.weights.specs.Blend.{total_weight, weighted_sum, denoised}
+use Rattle.window.specs.declared.Refusal.{Refusal}
 use Rattle.window.specs.Layout.{side_of, packed_size}
 use Rattle.window.specs.Refusals.{build_lines}
 use Rattle.denoiser.specs.declared.Built.{Built}
-use Rattle.denoiser.specs.declared.BuildAnswer.{BuildAnswer}
 use Rattle.denoiser.specs.Grid.{grid_side, unit_of}
 use Rattle.denoiser.specs.Window.{Other, Scene, Window, Rule, gate, centre_at, share_of, total_at, sum_at, denoised_at, accepted_in, accepted_blocks}
 use Rattle.denoiser.specs.Demand.{Held, Demand3}
@@ -142,7 +137,7 @@ module _ (p q : Scene → Rule Other) (b : BuildInput)
       ap (λ (o : Outcome Built). after o old (cond (cropped b.request) old (filled (scene_of b.request) f old))) outcome_alike
       ∙ ap (λ (l : List ℕ). after (outcome_of q b) old (cond (cropped b.request) old l)) (filled-same (scene_of b.request) f g e old)
 
-  pub build_alike : (r : BuildAnswer) (held : Held) → BuildBy p b r held → BuildBy q b r held
+  pub build_alike : (r : Result Built Refusal) (held : Held) → BuildBy p b r held → BuildBy q b r held
   unfolding window_of
   build_alike r held l =
       let u = p (scene_of b.request) in
@@ -164,7 +159,7 @@ module _ (p q : Scene → Rule Other) (b : BuildInput) (crop : cropped b.request
   unfolding outcome_of built_of
   outcome-cropped = rw crop
 
-  pub build-cropped : (r : BuildAnswer) (held : Held) → BuildBy p b r held → BuildBy q b r held
+  pub build-cropped : (r : Result Built Refusal) (held : Held) → BuildBy p b r held → BuildBy q b r held
   unfolding output_after working_after samples_of
   build-cropped r held l =
       record {

@@ -1,14 +1,8 @@
 -- Laws of `Spread`: what is added to the three planes comes together.
 
-use mathlib.Core.Path.{◌≡◌, refl, ap, ◌∙◌}
-use mathlib.Core.List.{List}
-use Prim.Native.Nat.{ℕ, zero, suc, ◌+◌, ◌-◌, ◌*◌, ◌/◌, ◌%◌, ◌^◌, ◌≤◌, ◌<◌}
-use native.Mathlib.Nat.{zero-add, div-add-mod', mod-lt, div-lt_iff_lt-mul}
-use native.Mathlib.Omega.{arith}
-use native.Mathlib.Decide.{dec_lt}
-use lib.ListN.{get_or}
+use Rattle.std.proofs.Common.{◌≡◌, refl, ap, ◌∙◌, List, ℕ, zero, suc, ◌+◌, ◌-◌, ◌*◌, ◌/◌, ◌%◌, ◌^◌, ◌≤◌, ◌<◌, zero-add, div-add-mod', mod-lt, div-lt_iff_lt-mul, arith, get_or, ℤ}
+use Rattle.std.proofs.Math.Decide.{dec_lt}
 use Rattle.window.specs.Layout.{side_of, offset_of, packed_size}
-use lib.IntN.{ℤ}
 use Rattle.prediction.specs.Plane.{Samples}
 use Rattle.denoiser.specs.declared.Block.{Block}
 use Rattle.denoiser.specs.Grid.{block_in}

@@ -1,17 +1,14 @@
 -- Claims of request 9: a block is accepted on all three planes together. Assumes nothing.
-use mathlib.Core.Path.{◌≡◌, refl, sym, ap, ◌∙◌}
-use mathlib.Core.Bool.{Bool, true, false, cond, ◌&&◌}
-use Prim.Native.Nat.{ℕ, zero, suc, ◌+◌, ◌-◌, ◌*◌, ◌/◌, ◌≤◌, ◌<◌, min}
-use native.Mathlib.Omega.{arith}
-use borrow.Author.Tests.{lt-ltb, le-ltb}
-use lib.IntN.{pos}
+use Rattle.std.specs.Prelude.{Result}
+use Rattle.std.proofs.Common.{◌≡◌, refl, sym, ap, ◌∙◌, Bool, true, false, cond, ◌&&◌, ℕ, zero, suc, ◌+◌, ◌-◌, ◌*◌, ◌/◌, ◌≤◌, ◌<◌, min, arith, lt-ltb, le-ltb, pos}
 use Rattle.laws.proofs.Each.{Each}
 use Rattle.laws.specs.Sums.{sum_below}
 use Rattle.laws.proofs.Sums.{sum_same, sum_less, sum_over-less}
 use Rattle.prediction.specs.Samples.{distance}
+use Rattle.window.specs.declared.Refusal.{Refusal}
 use Rattle.window.specs.Frames.{frame_count, frame_at}
+use Rattle.denoiser.specs.declared.Built.{Built}
 use Rattle.denoiser.specs.declared.Block.{Block}
-use Rattle.denoiser.specs.declared.BuildAnswer.{BuildAnswer}
 use Rattle.denoiser.specs.declared.Choice.{Choice}
 use Rattle.denoiser.specs.Grid.{grid_block, grid_side, block_in, unit_of}
 use Rattle.denoiser.specs.Search.{sad_of}
@@ -177,7 +174,7 @@ module _ (half : Bool) (b : BuildInput)
       by true e = each_passes half s f i j (plane e) ∙ sym e
       by false e = one_fails half s f i j 0 (omega arith) (luma_passes half s f i j ∙ e) ∙ sym e
 
-  pub three_same : (r : BuildAnswer) (held : Held) → BuildBy (three_rule half) b r held → BuildBy (rule_of (luma_alone half)) b r held
+  pub three_same : (r : Result Built Refusal) (held : Held) → BuildBy (three_rule half) b r held → BuildBy (rule_of (luma_alone half)) b r held
   unfolding window_of rule_of chosen_accepts chosen_sample
   three_same r held = build_alike (three_rule half) (rule_of (luma_alone half)) b alike r held
     where

@@ -1,14 +1,13 @@
 -- What a builder call is given, and what it answers and leaves in the three lent slices. Assumes nothing.
-use Rattle.std.specs.Prelude.{◌≡◌, Bool, false, cond, ◌||◌, List, ◌++◌, ℕ, ◌*◌, ◌/◌, ◌%◌, eqb, length, drop}
+use Rattle.std.specs.Prelude.{◌≡◌, Bool, false, cond, ◌||◌, List, ◌++◌, ℕ, ◌*◌, ◌/◌, ◌%◌, eqb, length, drop, Result}
 use Rattle.laws.specs.Tabulate.{tabulate}
-use Rattle.laws.specs.Outcome.{Outcome, accepted, first_of, after}
+use Rattle.laws.specs.Outcome.{Outcome, accepted, first_of, after, result_outcome}
 use Rattle.window.specs.declared.Frame.{Frame}
+use Rattle.window.specs.declared.Refusal.{Refusal}
 use Rattle.window.specs.Layout.{side_of, packed_size}
 use Rattle.window.specs.Frames.{frame_count, frame_at}
 use Rattle.window.specs.Refusals.{Given, given, build_lines, refusal_outcome}
 use Rattle.denoiser.specs.declared.Built.{Built}
-use Rattle.denoiser.specs.declared.BuildAnswer.{BuildAnswer}
-use Rattle.denoiser.specs.declared.BuildAnswer.TheVariants.{Done, Refused}
 use Rattle.denoiser.specs.Window.{Other, Scene, Window, Rule, centre_at, total_at, sum_at, denoised_at, accepted_blocks, arnr_rule}
 use Rattle.denoiser.specs.Chroma.{half_rule, three_rule}
 use Rattle.denoiser.specs.Pictures.{picture_of, others_of}
@@ -74,9 +73,8 @@ unfoldable pub outcome_of : (Scene → Rule Other) → BuildInput → Outcome Bu
 outcome_of rule b = first_of (build_lines (given_of b)) (built_of rule b.request)
 
 -- the number and the values of each refusal, and the answer
-abbrev pub build_outcome : BuildAnswer → Outcome Built
-build_outcome (Done a) = accepted a
-build_outcome (Refused r) = refusal_outcome r
+abbrev pub build_outcome : Result Built Refusal → Outcome Built
+build_outcome = result_outcome refusal_outcome
 
 -- the output after the call: unchanged on a refusal
 unfoldable pub output_after : (Scene → Rule Other) → BuildInput → List ℕ
@@ -95,18 +93,18 @@ pub record LeavesBy (rule : Scene → Rule Other) (b : BuildInput) (held : Held)
   pub demand3 : (a : Built) → outcome_of rule b ≡ accepted a → cropped b.request ≡ false → Demand3 (rule (scene_of b.request)) (window_of b.request) held
 
 -- what a builder promises: the answer, and what it leaves
-pub record BuildBy (rule : Scene → Rule Other) (b : BuildInput) (r : BuildAnswer) (held : Held) : Type 0 where
+pub record BuildBy (rule : Scene → Rule Other) (b : BuildInput) (r : Result Built Refusal) (held : Held) : Type 0 where
   pub answer : build_outcome r ≡ outcome_of rule b
   pub slices : LeavesBy rule b held
 
 -- the builder of the Rust, with caps; where every cap is 16 it is document 01's (`every-cap_16`)
-abbrev pub BuildIs : BuildInput → BuildAnswer → Held → Type 0
+abbrev pub BuildIs : BuildInput → Result Built Refusal → Held → Type 0
 BuildIs b r held = BuildBy arnr_rule b r held
 
 -- the builder with half samples in U and V: the same promise by the other rule
-abbrev pub BuildHalf : BuildInput → BuildAnswer → Held → Type 0
+abbrev pub BuildHalf : BuildInput → Result Built Refusal → Held → Type 0
 BuildHalf b r held = BuildBy half_rule b r held
 
 -- the builder that accepts on three planes, without half samples or with them
-abbrev pub BuildThree : Bool → BuildInput → BuildAnswer → Held → Type 0
+abbrev pub BuildThree : Bool → BuildInput → Result Built Refusal → Held → Type 0
 BuildThree half b r held = BuildBy (three_rule half) b r held

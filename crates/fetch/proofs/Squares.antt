@@ -1,31 +1,33 @@
 -- A square of a plane, row by row; what an accepted fetch knows; and that the square of biased coordinates is that of the definition. Assumes nothing.
-use native.Mathlib.Omega.{arith}
-use native.Mathlib.Nat.{mul-le-mul_right, mul-add-div_right, mul-add-mod_self_right, div-eq_of_lt, mod-eq_of_lt}
-use mathlib.Core.Bool.{false}
-use mathlib.Core.List.{List}
-use mathlib.Core.Path.{◌≡◌, refl, sym, ap, ◌∙◌}
-use Prim.Native.Nat.{ℕ, suc, ◌+◌, ◌-◌, ◌*◌, ◌/◌, ◌%◌, ◌≤◌, ◌<◌, min}
-use borrow.Author.Tests.{ltb-false, eqb-false}
-use lib.Dec.{ltb, eqb}
-use lib.ListN.{length, get_or, replicate}
-use lib.IntN.{ℤ, pos, ◌+ℤ◌, ◌-ℤ◌}
-use mir.Syntax.{w16}
-use mir.Val.{SFits}
-use Rattle.laws.specs.Signed.{above, below}
-use Rattle.laws.proofs.Signed.{range, floor, less_of, less-pos, less-sum, less_diff, above-less}
-use Rattle.laws.specs.Tabulate.{tabulate}
-use Rattle.laws.proofs.Tabulate.{tabulate-same}
+use Rattle.std.proofs.Common.{◌≡◌, ℕ, suc, ◌+◌, ◌-◌, ◌*◌, ◌/◌, ◌%◌, ◌≤◌, ◌<◌, min, ℤ, pos, ◌+ℤ◌, ◌-ℤ◌, false, List, ◌++◌, length, get_or, take, replicate, ltb, refl, sym, ap, ◌∙◌, SFits, w16, arith, length-append, length-drop, length-take-le, mod-eq_of_lt}
+use Rattle.std.specs.Prelude.{Result, Ok, Err, ⊤}
+use Rattle.std.proofs.Math.Nat.{div-eq_of_lt, mul-le-mul_right, mul-add-div_right, mul-add-mod_self_right}
+use Rattle.std.proofs.Math.Dec.{eqb}
+use Rattle.std.proofs.lemmas.Grind.{get_or_default_zero, common_steps}
+use Rattle.std.proofs.lemmas.List.{same_lists}
+use Rattle.std.proofs.lemmas.Slice.{take-put_mid}
+use borrow.Rule.Slice.PartMut.{put_mid}
+use Rattle.laws.specs.Internal.{Filling}
 use Rattle.laws.specs.Outcome.{Outcome, refused, accepted, Line, first_of, after}
-use Rattle.laws.proofs.Outcome.{accepted-same, never, skipped, or_none}
+use Rattle.laws.specs.Signed.{above, below}
+use Rattle.laws.specs.Tabulate.{tabulate}
+use Rattle.laws.proofs.Outcome.{or_none}
+use Rattle.laws.proofs.Signed.{range, floor, less_of, less-pos, less-sum, less_diff, above-less}
+use Rattle.laws.proofs.Tabulate.{tabulate-same, get_d_tabulate, length-tabulate}
 use Rattle.prediction.specs.declared.motion_vector.Mv.{Mv}
-use Rattle.fetch.specs.declared.FetchAnswer.{FetchAnswer}
-use Rattle.fetch.specs.declared.FetchAnswer.TheVariants.{Fetched, BadSize, ShortPlane, BadOrigin}
 use Rattle.prediction.specs.Vector.{whole_of}
 use Rattle.prediction.specs.Plane.{Plane, luma_plane, sample_at}
 use Rattle.prediction.specs.Prediction.{square_of, offset_by}
 use Rattle.prediction.specs.Refusals.{bad_side, block_of}
-use Rattle.fetch.specs.Refusals.{fetch_lines, fetch_outcome, FetchIs, FillIs}
-use Rattle.fetch.specs.Internal.{entry, Inside, Decides}
+use Rattle.fetch.specs.declared.FetchRefusal.{FetchRefusal}
+use Rattle.fetch.specs.declared.FetchRefusal.TheVariants.{BadSize, ShortPlane, BadOrigin}
+use Rattle.fetch.specs.declared.Square.{Square}
+use Rattle.fetch.specs.Refusals.{fetch_outcome, FetchIs, FillIs}
+use Rattle.fetch.specs.Internal.{entry, Decides}
+use Rattle.fetch.specs.Square.{samples_of, IsInside}
+
+regroup : (a b c : ℕ) → a + b + c ≡ a + (b + c)
+regroup a b c = omega arith
 
 -- place k of row r
 row_of : (n r k : ℕ) → k < n → (r * n + k) / n ≡ r
@@ -34,88 +36,57 @@ row_of n r k h = mul-add-div_right (omega arith) r k ∙ ap (λ (m : ℕ). r + m
 column_of : (n r k : ℕ) → k < n → (r * n + k) % n ≡ k
 column_of n r k h = mul-add-mod_self_right r n k ∙ mod-eq_of_lt h
 
-pub entry_at : (n bias : ℕ) (p : Plane) (x y r k : ℕ) → k < n
+entry_at : (n bias : ℕ) (p : Plane) (x y r k : ℕ) → k < n
     → entry n bias p x y (r * n + k)
     ≡ get_or p.bytes (p.start + min (y + r - bias) (p.rows - 1) * p.stride + min (x + k - bias) (p.columns - 1)) 0
 unfolding entry
 entry_at n bias p x y r k h = rw (row_of n r k h, column_of n r k h)
 
--- r rows of n are within n rows of n
+-- row r is within n rows of n, and so is each place of it
+pub rows_fit : (n r : ℕ) → r < n → r * n + n ≤ n * n
+rows_fit n r h = let g : suc r ≤ n = h in omega (arith, mul-le-mul_right n g)
+
 pub row_room : (n r k : ℕ) → r < n → k < n → r * n + k < n * n
-row_room n r k h l = let g : suc r ≤ n = h in omega (arith, mul-le-mul_right n g)
+row_room n r k h l = omega (arith, rows_fit n r h)
 
--- a store in row r, and a loop's turn
-pub write_fits : (n r k : ℕ) (xs : List ℕ) → r < n → k < n → length xs ≡ n * n → r * n + k < length xs
-write_fits n r k xs less here long = let l = row_room n r k less here in omega arith
+-- a turn that copies m entries at once
+pub fill_part : {f : ℕ → ℕ} {n : ℕ} {xs : List ℕ} {i : ℕ} (m k : ℕ) (ys : List ℕ) → Filling f n xs i → i + m ≤ n → k ≡ m → length ys ≡ m
+    → ((j : ℕ) → j < m → get_or ys j 0 ≡ f (i + j)) → Filling f n (put_mid i k xs ys) (i + m)
+fill_part {f} {n} {xs} {i} m k ys p fits e long at =
+    record {
+      count = fits;
+      long = simp (length-append, length-drop) (omega (arith, p.long, length-take-le i xs (omega arith)));
+      done = take-put_mid i k xs ys (i + m) (omega arith) (omega arith) ∙ same_lists _ _ (simp (length-append) (omega (arith, length-take-le i xs (omega arith), length-tabulate (i + m) f))) each;
+    }
+  where
+    each : (j d : ℕ) → j < length (take i xs ++ ys) → get_or (take i xs ++ ys) j d ≡ get_or (tabulate (i + m) f) j d
+    each j d h =
+        let t = length-take-le i xs (omega arith) in
+        grind (arith, common_steps, p.done, length-append (take i xs) ys, get_d_tabulate i f j d, get_d_tabulate (i + m) f j d, at (j - i), get_or_default_zero ys (j - i) d)
 
-pub next : (k n : ℕ) → k < n → k + 1 ≤ n
-next k n h = omega arith
+module _ {N : ℕ} (s : Square N) (r : ℕ) (row : r < N) where
+  -- a sample by its place in the plane
+  pub edge-sample : (k from column : ℕ) → k < N → from ≡ min (s.y + r - s.bias) (s.height - 1) * s.stride → column ≡ min (s.x + k - s.bias) (s.width - 1)
+      → get_or s.samples.now (from + column) 0 ≡ samples_of s (r * N + k)
+  edge-sample k from column l e f =
+      ap (λ (m : ℕ). get_or s.samples.now m 0) (omega arith) ∙ sym (entry_at N s.bias (luma_plane s.samples.now s.stride s.width s.height) s.x s.y r k l)
 
-pub fewer : (n k : ℕ) → k < n → n - (k + 1) < n - k
-fewer n k h = omega arith
+  -- inside, nothing is cut, and a row is a part of one of the plane
+  module _ (i : IsInside s) where
+    pub part-fits : (s.y - s.bias + r) * s.stride + (s.x - s.bias) + N ≤ length s.samples.now
+    part-fits =
+        let g : s.y - s.bias + r ≤ s.height - 1 = omega (arith, i.bottom) in
+        omega (arith, mul-le-mul_right s.stride g, i.right, s.long)
 
--- a row and a column within the size are within a plane that is long enough
-pub within : (row column stride w h len : ℕ) → row ≤ h - 1 → column ≤ w - 1 → 0 < w → (h - 1) * stride + w ≤ len → row * stride + column < len
-within row column stride w h len p q r s = omega (arith, mul-le-mul_right stride p)
-
--- the same for a part of a row of a square inside
-module _ (n bias w h x y stride len r : ℕ) (i : Inside n bias w h x y) (less : r < n) (long : (h - 1) * stride + w ≤ len) where
-  pub part-fits : (y - bias + r) * stride + (x - bias) + n ≤ len
-  part-fits =
-      let g : y - bias + r ≤ h - 1 = omega (arith, i.bottom) in
-      omega (arith, mul-le-mul_right stride g, i.right)
-
-pub edge-entry : (bytes : List ℕ) (n bias stride w h x y r k from column : ℕ) → k < n → from ≡ min (y + r - bias) (h - 1) * stride → column ≡ min (x + k - bias) (w - 1)
-    → get_or bytes (from + column) 0 ≡ entry n bias (luma_plane bytes stride w h) x y (r * n + k)
-edge-entry bytes n bias stride w h x y r k from column l e f =
-    ap (λ (m : ℕ). get_or bytes m 0) (omega arith) ∙ sym (entry_at n bias (luma_plane bytes stride w h) x y r k l)
-
--- inside, nothing is cut
-uncut : (n bias h y r : ℕ) → bias ≤ y → y - bias + n ≤ h → r < n → y - bias + r ≡ min (y + r - bias) (h - 1)
-uncut n bias h y r a b l = omega arith
-
-regroup : (a b c : ℕ) → a + b + c ≡ a + (b + c)
-regroup a b c = omega arith
-
-pub inside-entry : (bytes : List ℕ) (n bias stride w h x y r k : ℕ) → Inside n bias w h x y → r < n → k < n
-    → get_or bytes ((y - bias + r) * stride + (x - bias) + k) 0 ≡ entry n bias (luma_plane bytes stride w h) x y (r * n + k)
-inside-entry bytes n bias stride w h x y r k i less l =
-    ap (λ (m : ℕ). get_or bytes m 0) (regroup ((y - bias + r) * stride) (x - bias) k)
-    ∙ edge-entry bytes n bias stride w h x y r k ((y - bias + r) * stride) (x - bias + k) l
-    (ap (λ (m : ℕ). m * stride) (uncut n bias h y r i.top i.bottom less)) (uncut n bias w x k i.left i.right l)
-
--- what an accepted fetch knows
-pub record Legal (len stride w h x y : ℕ) : Type 0 where
-  pub wide : 0 < w
-  pub narrow : w ≤ 16383
-  pub high : 0 < h
-  pub low : h ≤ 16383
-  pub long : (h - 1) * stride + w ≤ len
-  pub left : x ≤ 16368
-  pub top : y ≤ 16368
+    pub inside-sample : (k : ℕ) → k < N → get_or s.samples.now ((s.y - s.bias + r) * s.stride + (s.x - s.bias) + k) 0 ≡ samples_of s (r * N + k)
+    inside-sample k l =
+        let y : s.y - s.bias + r ≡ min (s.y + r - s.bias) (s.height - 1) = omega (arith, i.top, i.bottom) in
+        let x : s.x - s.bias + k ≡ min (s.x + k - s.bias) (s.width - 1) = omega (arith, i.left, i.right) in
+        ap (λ (m : ℕ). get_or s.samples.now m 0) (regroup ((s.y - s.bias + r) * s.stride) (s.x - s.bias) k)
+        ∙ edge-sample k ((s.y - s.bias + r) * s.stride) (s.x - s.bias + k) l (ap (λ (m : ℕ). m * s.stride) y) x
 
 pub sized : (n : ℕ) → bad_side n ≡ false → (0 < n) × (n ≤ 16383)
-sized n e =
-    let p = or_none (eqb n 0) (ltb 16383 n) e in
-    let q = eqb-false n 0 p.0 in
-    let r = ltb-false 16383 n p.1 in
-    omega arith
-
-pub legal : {A : Type 0} (bytes : List ℕ) (stride w h x y : ℕ) (a b : A) → first_of (fetch_lines (luma_plane bytes stride w h) x y) a ≡ accepted b → Legal (length bytes) stride w h x y
-legal bytes stride w h x y a b e =
-    let s = skipped (fetch_lines (luma_plane bytes stride w h) x y) a b e in
-    let q = or_none (bad_side w) (bad_side h) s.0 in
-    let o = or_none (ltb 16368 x) (ltb 16368 y) s.1.1.0 in
-    let long = ltb-false (length bytes) (0 + (h - 1) * stride + w) s.1.0 in
-    record {
-      wide = (sized w q.0).0;
-      narrow = (sized w q.0).1;
-      high = (sized h q.1).0;
-      low = (sized h q.1).1;
-      long = omega arith;
-      left = ltb-false 16368 x o.0;
-      top = ltb-false 16368 y o.1;
-    }
+sized n e = grind (arith, or_none (eqb n 0) (ltb 16383 n) e)
 
 -- what `moved` adds: the whole offset with a bias of 4096
 abbrev pub biased_by : ℤ → ℕ
@@ -143,33 +114,24 @@ unchanged : (o : Outcome (List ℕ)) (old : List ℕ) → old ≡ after o old ol
 unchanged (refused k v) old = refl
 unchanged (accepted b) old = refl
 
-module _ (lines : List Line) (a : FetchAnswer) (b : List ℕ) (decides : Decides lines a) where
-  refused_alike : (o : FetchAnswer) → (o ≡ Fetched → ⊥) → (old : List ℕ) → fetch_outcome o old ≡ fetch_outcome o b
-  refused_alike Fetched k old = absurd (k refl)
-  refused_alike BadSize k old = refl
-  refused_alike ShortPlane k old = refl
-  refused_alike BadOrigin k old = refl
+module _ (lines : List Line) (b : List ℕ) where
+  pub fill_refused : (e : FetchRefusal) → Decides lines (Err e) → (old : List ℕ) → FillIs (first_of lines b) (Err e) old old
+  fill_refused e decides old = record { outcome = decides b; kept = unchanged (first_of lines b) old }
 
-  pub fill_refused : (old : List ℕ) → (a ≡ Fetched → ⊥) → FillIs (first_of lines b) a old old
-  fill_refused old k = record { outcome = refused_alike a k old ∙ decides b; kept = unchanged (first_of lines b) old }
-
-  pub fetch_legal : a ≡ Fetched → first_of lines b ≡ accepted b
-  fetch_legal e = sym (decides b) ∙ ap (λ (o : FetchAnswer). fetch_outcome o b) e
-
-  pub fill_accepted : (old r : List ℕ) → a ≡ Fetched → r ≡ b → FillIs (first_of lines b) a old r
-  fill_accepted old r e f =
-      record { outcome = ap (fetch_outcome a) f ∙ decides b; kept = ap (λ (o : Outcome (List ℕ)). after o old r) (sym (fetch_legal e)) }
+  pub fill_accepted : Decides lines (Ok tt) → (old r : List ℕ) → r ≡ b → FillIs (first_of lines b) (Ok tt) old r
+  fill_accepted decides old r f =
+      record { outcome = ap accepted f ∙ decides b; kept = ap (λ (o : Outcome (List ℕ)). after o old r) (decides b) }
 
 -- an array of zeros that was lent is the block beside the answer
-pub fetched : (a : FetchAnswer) (held b : List ℕ) → fetch_outcome a held ≡ accepted b → held ≡ b
-fetched Fetched held b e = accepted-same held b e
-fetched BadSize held b e = absurd (never _ _ b e)
-fetched ShortPlane held b e = absurd (never _ _ b e)
-fetched BadOrigin held b e = absurd (never _ _ b e)
+pub fetched : (a : Result ⊤ FetchRefusal) (held b : List ℕ) → fetch_outcome a held ≡ accepted b → held ≡ b
+fetched (Ok u) held b e = cc
+fetched (Err BadSize) held b e = cc
+fetched (Err ShortPlane) held b e = cc
+fetched (Err BadOrigin) held b e = cc
 
-beside_of : (o : Outcome (List ℕ)) (a : FetchAnswer) (n : ℕ) (held : List ℕ) → fetch_outcome a held ≡ o → held ≡ after o (replicate n 0) held → held ≡ block_of n o
+beside_of : (o : Outcome (List ℕ)) (a : Result ⊤ FetchRefusal) (n : ℕ) (held : List ℕ) → fetch_outcome a held ≡ o → held ≡ after o (replicate n 0) held → held ≡ block_of n o
 beside_of (refused k v) a n held e h = h
 beside_of (accepted b) a n held e h = fetched a held b e
 
-pub by_value : (o : Outcome (List ℕ)) (a : FetchAnswer) (n : ℕ) (held : List ℕ) → FillIs o a (replicate n 0) held → FetchIs o n a held
+pub by_value : (o : Outcome (List ℕ)) (a : Result ⊤ FetchRefusal) (n : ℕ) (held : List ℕ) → FillIs o a (replicate n 0) held → FetchIs o n a held
 by_value o a n held f = record { outcome = f.outcome; beside = beside_of o a n held f.outcome f.kept }

@@ -1,7 +1,7 @@
 // The luma fetches: a macroblock, or its halo, from a reference plane whose edge samples repeat.
 #![tactic(auto)]
 
-ghost use Rattle.std.specs.Prelude.{◌≡◌, true, ◌||◌, ◌+◌, ◌-◌, ◌*◌, ◌≤◌, ◌<◌, min, ltb, length, get_or};
+ghost use Rattle.std.specs.Prelude.{◌≡◌, true, ◌||◌, ◌+◌, ◌-◌, ◌*◌, ◌≤◌, ◌<◌, min, ltb, length, get_or, IfOk};
 ghost use Rattle.laws.specs.Signed.{above, below};
 ghost use Rattle.laws.specs.Tabulate.{tabulate};
 ghost use Rattle.laws.specs.Internal.{Filling};
@@ -9,52 +9,53 @@ ghost use Rattle.prediction.specs.Vector.{whole_of};
 ghost use Rattle.prediction.specs.Plane.{luma_plane};
 ghost use Rattle.prediction.specs.Refusals.{bad_side, bad_origin};
 ghost use Rattle.fetch.specs.Refusals.{fetch_lines, macroblock_at, halo_at, FetchIs, FillIs};
-ghost use Rattle.fetch.specs.Internal.{entry, Inside, Decides};
+ghost use Rattle.fetch.specs.Internal.{Decides, Legal, square_at};
 
 use prediction::motion_comp::whole_offset;
 use prediction::motion_vector::Mv;
 
-// A fetched block, or why a fetch is refused.
-#[derive(Clone, Copy)]
-pub enum FetchAnswer {
-    Fetched,
+// Why a fetch is refused.
+#[derive(Clone, Copy, Debug, PartialEq, Eq)]
+pub enum FetchRefusal {
     BadSize,
     ShortPlane,
     BadOrigin,
 }
 
-// A macroblock beside the answer: all zeros with a refusal.
+// A block beside the answer: all zeros with a refusal (MODEL.md), and so no Result of a block.
 #[derive(Clone, Copy)]
-pub struct FetchedMb {
-    pub answer: FetchAnswer,
-    pub block: [u8; 256],
+pub struct Fetched<const N: usize> {
+    pub answer: Result<(), FetchRefusal>,
+    pub block: [u8; N],
 }
 
-// A halo beside the answer: all zeros with a refusal.
+// A square of N by N samples, from column x - bias and row y - bias on, of a plane that is long enough.
 #[derive(Clone, Copy)]
-pub struct FetchedHalo {
-    pub answer: FetchAnswer,
-    pub halo: [u8; 441],
+struct Square<'a, const N: usize> {
+    samples: &'a [u8],
+    stride: usize,
+    width: usize,
+    height: usize,
+    bias: usize,
+    x: usize,
+    y: usize,
+    ghost small: { (N ≤ 21) × (x < 32768) × (y < 32768) },
+    ghost sized: { (0 < width) × (0 < height) },
+    ghost long: { (height - 1) * stride + width ≤ length samples.now },
 }
 
 // A width or height that is 0 or above 16383.
 fn bad_side(n: usize) -> bool
     ensures { result ≡ bad_side n }
 {
-    if n == 0 {
-        return true;
-    }
-    16383 < n
+    n == 0 || 16383 < n
 }
 
 // Refusal 8: the width or the height is 0 or above 16383.
 pub fn bad_size(width: usize, height: usize) -> bool
     ensures { result ≡ (bad_side width || bad_side height) }
 {
-    if bad_side(width) {
-        return true;
-    }
-    bad_side(height)
+    bad_side(width) || bad_side(height)
 }
 
 // Refusal 9: len is below (height - 1) times stride + width, at any stride; height 0 counts as one row. A product is made only where
@@ -68,10 +69,8 @@ pub fn short_plane(len: usize, stride: usize, width: usize, height: usize) -> bo
     if height <= 1 {
         return false;
     }
-    if height <= 16384 {
-        if stride <= 4294967296 {
-            return len - width < (height - 1) * stride;
-        }
+    if height <= 16384 && stride <= 4294967296 {
+        return len - width < (height - 1) * stride;
     }
     (len - width) / (height - 1) < stride
 }
@@ -80,33 +79,31 @@ pub fn short_plane(len: usize, stride: usize, width: usize, height: usize) -> bo
 fn bad_origin(x: usize, y: usize) -> bool
     ensures { result ≡ bad_origin x y }
 {
-    if 16368 < x {
-        return true;
-    }
-    16368 < y
+    16368 < x || 16368 < y
 }
 
 // The first refusal of a fetch that applies.
-fn fetch_answer(
+fn check_fetch(
     plane: &[u8],
     stride: usize,
     width: usize,
     height: usize,
     x: usize,
     y: usize,
-) -> FetchAnswer
-    ensures { Decides (fetch_lines (luma_plane plane.now stride width height) x y) result }
+) -> Result<(), FetchRefusal>
+    ensures decides { Decides (fetch_lines (luma_plane plane.now stride width height) x y) result }
+    ensures legal { IfOk result (λ _. Legal (length plane.now) stride width height x y) }
 {
     if bad_size(width, height) {
-        return FetchAnswer::BadSize;
+        return Err(FetchRefusal::BadSize);
     }
     if short_plane(plane.len(), stride, width, height) {
-        return FetchAnswer::ShortPlane;
+        return Err(FetchRefusal::ShortPlane);
     }
     if bad_origin(x, y) {
-        return FetchAnswer::BadOrigin;
+        return Err(FetchRefusal::BadOrigin);
     }
-    FetchAnswer::Fetched
+    Ok(())
 }
 
 // The coordinate x moved by the whole offset of a component, plus 4096.
@@ -122,185 +119,92 @@ fn cut(x: usize, bias: usize, n: usize) -> usize
     requires { 0 < n }
     ensures { result ≡ min (x - bias) (n - 1) }
 {
-    if x < bias {
-        return 0;
-    }
-    if n <= x - bias {
-        return n - 1;
-    }
-    x - bias
+    x.saturating_sub(bias).min(n - 1)
 }
 
-// Whether the n by n square from column x - bias and row y - bias on lies in the plane.
-fn lies_inside(n: usize, bias: usize, width: usize, height: usize, x: usize, y: usize) -> bool
-    requires { (n ≤ 21) × (x < 32768) × (y < 32768) }
-    ensures { result ≡ true → Inside n bias width height x y }
-{
-    if x < bias {
-        return false;
-    }
-    if y < bias {
-        return false;
-    }
-    if width < x - bias + n {
-        return false;
-    }
-    y - bias + n <= height
-}
+impl<'a, const N: usize> Square<'a, N> {
+    ghost use Rattle.fetch.specs.Square.{samples_of, IsInside};
 
-// Row r of a square: edge samples repeat.
-fn edge_row(
-    out: &mut [u8],
-    n: usize,
-    r: usize,
-    bias: usize,
-    plane: &[u8],
-    stride: usize,
-    width: usize,
-    height: usize,
-    x: usize,
-    y: usize,
-)
-    requires r_lt_n { (r < n) × (n ≤ 21) × (0 < width) × (0 < height) × (x < 32768) × (y < 32768) }
-    requires width_in_bounds { (height - 1) * stride + width ≤ length plane.now }
-    requires filling { Filling (entry n bias (luma_plane plane.now stride width height) x y) (n * n) out.old (r * n) }
-    ensures { Filling (entry n bias (luma_plane plane.now stride width height) x y) (n * n) out.new (r * n + n) }
-{
-    let from = cut(y + r, bias, height) * stride;
-    let at = r * n;
-    for k in 0..n {
-        out[at + k] = plane[from + cut(x + k, bias, width)];
+    // Whether it lies in the plane.
+    fn lies_inside(&self) -> bool
+        ensures { result ≡ true → IsInside self.now }
+    {
+        self.bias <= self.x
+            && self.bias <= self.y
+            && self.x - self.bias + N <= self.width
+            && self.y - self.bias + N <= self.height
     }
-}
 
-// Row r of a square that lies in the plane.
-fn inside_row(
-    out: &mut [u8],
-    n: usize,
-    r: usize,
-    bias: usize,
-    plane: &[u8],
-    stride: usize,
-    width: usize,
-    height: usize,
-    x: usize,
-    y: usize,
-)
-    requires r_lt_n { (r < n) × (n ≤ 21) × (x < 32768) × (y < 32768) × Inside n bias width height x y }
-    requires width_in_bounds { (height - 1) * stride + width ≤ length plane.now }
-    requires filling { Filling (entry n bias (luma_plane plane.now stride width height) x y) (n * n) out.old (r * n) }
-    ensures { Filling (entry n bias (luma_plane plane.now stride width height) x y) (n * n) out.new (r * n + n) }
-{
-    let from = (y - bias + r) * stride + (x - bias);
-    let at = r * n;
-    for k in 0..n {
-        out[at + k] = plane[from + k];
+    // Row r: edge samples repeat.
+    fn edge_row(&self, out: &mut [u8], r: usize)
+        requires r_lt_n { r < N }
+        requires filling { Filling (samples_of self.now) (N * N) out.old (r * N) }
+        ensures { Filling (samples_of self.now) (N * N) out.new (r * N + N) }
+    {
+        let from = cut(self.y + r, self.bias, self.height) * self.stride;
+        for k in 0..N {
+            out[r * N + k] = self.samples[from + cut(self.x + k, self.bias, self.width)];
+        }
     }
-}
 
-// The n by n square from column x - bias and row y - bias on, row by row.
-fn square(
-    out: &mut [u8],
-    n: usize,
-    bias: usize,
-    plane: &[u8],
-    stride: usize,
-    width: usize,
-    height: usize,
-    x: usize,
-    y: usize,
-)
-    requires n_bound { (n ≤ 21) × (0 < width) × (0 < height) × (x < 32768) × (y < 32768) × (length out.old ≡ n * n) }
-    requires width_in_bounds { (height - 1) * stride + width ≤ length plane.now }
-    ensures { out.new ≡ tabulate (n * n) (entry n bias (luma_plane plane.now stride width height) x y) }
-{
-    let inside = lies_inside(n, bias, width, height, x, y);
-    for r in 0..n {
-        if inside {
-            inside_row(out, n, r, bias, plane, stride, width, height, x, y);
-        } else {
-            edge_row(out, n, r, bias, plane, stride, width, height, x, y);
+    // Row r of a square that lies in the plane. The row is an array of its own first: the compiler then knows that plane and lent array do
+    // not overlap there, and copies in wide steps.
+    fn inside_row(&self, out: &mut [u8], r: usize)
+        requires r_lt_n { r < N }
+        requires inside { IsInside self.now }
+        requires filling { Filling (samples_of self.now) (N * N) out.old (r * N) }
+        ensures { Filling (samples_of self.now) (N * N) out.new (r * N + N) }
+    {
+        let from = (self.y - self.bias + r) * self.stride + (self.x - self.bias);
+        let mut row = [0u8; N];
+        row.copy_from_slice(&self.samples[from..from + N]);
+        out[r * N..r * N + N].copy_from_slice(&row);
+    }
+
+    // The square, row by row.
+    fn fill(&self, out: &mut [u8])
+        requires { length out.old ≡ N * N }
+        ensures { out.new ≡ tabulate (N * N) (samples_of self.now) }
+    {
+        let inside = self.lies_inside();
+        for r in 0..N {
+            if inside {
+                self.inside_row(out, r);
+            } else {
+                self.edge_row(out, r);
+            }
         }
     }
 }
 
-// A row of a halo, by itself: the compiler then knows that nothing else is written.
-fn row_at(plane: &[u8], from: usize) -> [u8; 21]
-    requires { from + 21 ≤ length plane.now }
-    ensures { result ≡ tabulate 21 (λ k. get_or plane.now (from + k) 0) }
-{
-    let mut row = [0u8; 21];
-    let mut k = 0;
-    while k < 21 {
-        row[k] = plane[from + k];
-        k += 1;
-    }
-    row
-}
-
-// Row r of a halo that lies in the plane.
-fn halo_row(
-    out: &mut [u8],
-    r: usize,
+// The square of N by N samples from margin left and above of a pixel origin on, moved by the whole offset of a vector in eighths, into a
+// lent array.
+fn fill_square<const N: usize>(
     plane: &[u8],
     stride: usize,
     width: usize,
     height: usize,
     x: usize,
     y: usize,
-)
-    requires r_bound { (r < 21) × (x < 32768) × (y < 32768) × Inside 21 4098 width height x y }
-    requires width_in_bounds { (height - 1) * stride + width ≤ length plane.now }
-    requires filling { Filling (entry 21 4098 (luma_plane plane.now stride width height) x y) 441 out.old (r * 21) }
-    ensures { Filling (entry 21 4098 (luma_plane plane.now stride width height) x y) 441 out.new (r * 21 + 21) }
-{
-    let from = (y - 4098 + r) * stride + (x - 4098);
-    let row = row_at(plane, from);
-    for k in 0..21 {
-        out[r * 21 + k] = row[k];
-    }
-}
-
-// A halo that lies in the plane: rows of a size that the compiler knows.
-fn halo_inside(
+    mv: Mv,
+    margin: usize,
     out: &mut [u8],
-    plane: &[u8],
-    stride: usize,
-    width: usize,
-    height: usize,
-    x: usize,
-    y: usize,
-)
-    requires x_bound { (x < 32768) × (y < 32768) × Inside 21 4098 width height x y }
-    requires width_in_bounds { (height - 1) * stride + width ≤ length plane.now }
-    requires out_len { length out.old ≡ 441 }
-    ensures { out.new ≡ tabulate 441 (entry 21 4098 (luma_plane plane.now stride width height) x y) }
+) -> Result<(), FetchRefusal>
+    requires n_bound { (N ≤ 21) × (margin ≤ 21) × (length out.old ≡ N * N) }
+    ensures { FillIs (square_at N margin (luma_plane plane.now stride width height) x y mv) result out.old out.new }
 {
-    for r in 0..21 {
-        halo_row(out, r, plane, stride, width, height, x, y);
-    }
-}
-
-// The halo from column x - 4098 and row y - 4098 on.
-fn halo_at(
-    out: &mut [u8],
-    plane: &[u8],
-    stride: usize,
-    width: usize,
-    height: usize,
-    x: usize,
-    y: usize,
-)
-    requires width_nonzero { (0 < width) × (0 < height) × (x < 32768) × (y < 32768) }
-    requires width_in_bounds { (height - 1) * stride + width ≤ length plane.now }
-    requires out_len { length out.old ≡ 441 }
-    ensures { out.new ≡ tabulate 441 (entry 21 4098 (luma_plane plane.now stride width height) x y) }
-{
-    if lies_inside(21, 4098, width, height, x, y) {
-        halo_inside(out, plane, stride, width, height, x, y);
-        return;
-    }
-    square(out, 21, 4098, plane, stride, width, height, x, y);
+    check_fetch(plane, stride, width, height, x, y)?;
+    let square: Square<N> = Square {
+        samples: plane,
+        stride,
+        width,
+        height,
+        bias: 4096 + margin,
+        x: moved(x, mv.col),
+        y: moved(y, mv.row),
+    };
+    square.fill(out);
+    Ok(())
 }
 
 // The macroblock at a pixel origin, moved by the whole offset of a vector in eighths, into a lent array.
@@ -313,21 +217,13 @@ pub fn fill_luma_mb_whole_pixel(
     y: usize,
     mv: Mv,
     block: &mut [u8; 256],
-) -> FetchAnswer
+) -> Result<(), FetchRefusal>
     ensures { FillIs (macroblock_at (luma_plane plane.now stride width height) x y mv) result block.old block.new }
 {
-    let answer = fetch_answer(plane, stride, width, height, x, y);
-    if let FetchAnswer::Fetched = answer {
-        let column = moved(x, mv.col);
-        let row = moved(y, mv.row);
-        square(block, 16, 4096, plane, stride, width, height, column, row);
-        answer
-    } else {
-        answer
-    }
+    fill_square::<16>(plane, stride, width, height, x, y, mv, 0, block)
 }
 
-// The same by value.
+// The same by value. One function for both would have to be told the size and its square, and is no plainer.
 pub fn fetch_luma_mb_whole_pixel(
     plane: &[u8],
     stride: usize,
@@ -336,15 +232,12 @@ pub fn fetch_luma_mb_whole_pixel(
     x: usize,
     y: usize,
     mv: Mv,
-) -> FetchedMb
+) -> Fetched<256>
     ensures { FetchIs (macroblock_at (luma_plane plane.now stride width height) x y mv) 256 result.answer result.block }
 {
     let mut block = [0u8; 256];
     let answer = fill_luma_mb_whole_pixel(plane, stride, width, height, x, y, mv, &mut block);
-    FetchedMb {
-        answer: answer,
-        block: block,
-    }
+    Fetched { answer, block }
 }
 
 // The halo of that macroblock, which starts two samples left and above, into a lent array.
@@ -357,18 +250,10 @@ pub fn fill_luma_mb_halo(
     y: usize,
     mv: Mv,
     halo: &mut [u8; 441],
-) -> FetchAnswer
+) -> Result<(), FetchRefusal>
     ensures { FillIs (halo_at (luma_plane plane.now stride width height) x y mv) result halo.old halo.new }
 {
-    let answer = fetch_answer(plane, stride, width, height, x, y);
-    if let FetchAnswer::Fetched = answer {
-        let column = moved(x, mv.col);
-        let row = moved(y, mv.row);
-        halo_at(halo, plane, stride, width, height, column, row);
-        answer
-    } else {
-        answer
-    }
+    fill_square::<21>(plane, stride, width, height, x, y, mv, 2, halo)
 }
 
 // The same by value.
@@ -380,13 +265,10 @@ pub fn fetch_luma_mb_halo(
     x: usize,
     y: usize,
     mv: Mv,
-) -> FetchedHalo
-    ensures { FetchIs (halo_at (luma_plane plane.now stride width height) x y mv) 441 result.answer result.halo }
+) -> Fetched<441>
+    ensures { FetchIs (halo_at (luma_plane plane.now stride width height) x y mv) 441 result.answer result.block }
 {
-    let mut halo = [0u8; 441];
-    let answer = fill_luma_mb_halo(plane, stride, width, height, x, y, mv, &mut halo);
-    FetchedHalo {
-        answer: answer,
-        halo: halo,
-    }
+    let mut block = [0u8; 441];
+    let answer = fill_luma_mb_halo(plane, stride, width, height, x, y, mv, &mut block);
+    Fetched { answer, block }
 }

@@ -43,23 +43,20 @@ pub fn vp8model_distance_bound(n: u32, strength: u8) -> u32
 pub fn vp8model_arnr_config_new(strength: u8) -> u8
     ensures { result ≡ min strength 6 }
 {
-    let config = ArnrConfig::new(strength);
-    config.strength
+    ArnrConfig::new(strength).strength
 }
 
 pub fn vp8model_arnr_config_default() -> u8
     ensures { result ≡ 3 }
 {
-    let config = ArnrConfig::default();
-    config.strength
+    ArnrConfig::default().strength
 }
 
 pub fn vp8model_arnr_config_with_strength(config: u8, v: u8) -> u8
     ensures { result ≡ v }
 {
     let old = ArnrConfig { strength: config };
-    let new = old.with_strength(v);
-    new.strength
+    old.with_strength(v).strength
 }
 
 pub fn vp8model_frame_count(numbers: &[u32]) -> usize
@@ -84,8 +81,14 @@ pub fn vp8model_check_build(
 ) -> Build
     ensures { result ≡ check_numbers (checks (given bytes.now numbers.now centre output_len sums_len weights_len)) }
 {
-    let checked = window::check_build(bytes, numbers, centre, output_len, sums_len, weights_len);
-    numbers::check_numbers(checked)
+    numbers::check_numbers(window::check_build(
+        bytes,
+        numbers,
+        centre,
+        output_len,
+        sums_len,
+        weights_len,
+    ))
 }
 
 pub fn vp8model_build_from_numbers(
@@ -110,7 +113,7 @@ pub fn vp8model_build_from_numbers(
       weights = weights.new;
     }) }
 {
-    let config = ArnrConfig { strength: strength };
+    let config = ArnrConfig { strength };
     let answer = arnr::build_from_numbers(bytes, numbers, centre, config, output, sums, weights);
     numbers::build_numbers(answer)
 }
@@ -137,7 +140,7 @@ pub fn vp8model_build_arnr_altref(
       weights = weights.new;
     }) }
 {
-    let config = ArnrConfig { strength: strength };
+    let config = ArnrConfig { strength };
     let answer = altref::build_arnr_altref(bytes, frames, centre, config, output, sums, weights);
     numbers::build_numbers(answer)
 }
@@ -164,7 +167,7 @@ pub fn vp8model_build_half_sample(
       weights = weights.new;
     }) }
 {
-    let config = ArnrConfig { strength: strength };
+    let config = ArnrConfig { strength };
     let answer = arnr::build_half_sample(bytes, numbers, centre, config, output, sums, weights);
     numbers::build_numbers(answer)
 }
@@ -191,7 +194,7 @@ pub fn vp8model_build_three_planes(
       weights = weights.new;
     }) }
 {
-    let config = ArnrConfig { strength: strength };
+    let config = ArnrConfig { strength };
     let r = arnr::build_three_planes(bytes, numbers, centre, config, false, output, sums, weights);
     numbers::build_numbers(r)
 }
@@ -218,7 +221,7 @@ pub fn vp8model_build_three_planes_half_sample(
       weights = weights.new;
     }) }
 {
-    let config = ArnrConfig { strength: strength };
+    let config = ArnrConfig { strength };
     let r = arnr::build_three_planes(bytes, numbers, centre, config, true, output, sums, weights);
     numbers::build_numbers(r)
 }

@@ -41,8 +41,9 @@ pub fn vp8model_fetch_luma_mb_whole_pixel(
         col: mv_col,
     };
     let answer = fetch::fill_luma_mb_whole_pixel(plane, stride, width, height, x, y, mv, block);
-    let number = numbers::fetch_number(answer);
-    Status { refusal: number }
+    Status {
+        refusal: numbers::fetch_number(answer),
+    }
 }
 
 pub fn vp8model_fetch_luma_mb_halo(
@@ -65,6 +66,7 @@ pub fn vp8model_fetch_luma_mb_halo(
         col: mv_col,
     };
     let answer = fetch::fill_luma_mb_halo(plane, stride, width, height, x, y, mv, halo);
-    let number = numbers::fetch_number(answer);
-    Status { refusal: number }
+    Status {
+        refusal: numbers::fetch_number(answer),
+    }
 }

@@ -5,5 +5,6 @@
 pub mod allowance_calls;
 pub mod denoiser_calls;
 pub mod fetch_calls;
+mod filled;
 pub mod prediction_calls;
 pub mod search_calls;

@@ -8,7 +8,7 @@ ghost use Rattle.prediction.specs.Prediction.{filtered_mb};
 ghost use Rattle.filters.specs.Refusals.{selector_lines, filter_lines};
 ghost use Rattle.numbers.specs.Answers.{filter_number, mv_of, vector_numbers, sample_numbers, Fills};
 
-use filters::FilterAnswer;
+use crate::filled::store;
 use numbers::answers::{Sample, Status, Vector};
 use prediction::motion_vector::Mv;
 
@@ -27,8 +27,7 @@ pub fn vp8model_abs_diff(a: u8, b: u8) -> u8
 pub fn vp8model_stored_luma_mv(row: i16, col: i16) -> Vector
     ensures { result ≡ vector_numbers (stored_mv (mv_of row col)) }
 {
-    let stored = prediction::motion_comp::stored_luma_mv(Mv { row: row, col: col });
-    numbers::vector_numbers(stored)
+    numbers::vector_numbers(prediction::motion_comp::stored_luma_mv(Mv { row, col }))
 }
 
 pub fn vp8model_whole_offset(v: i16) -> i32
@@ -46,29 +45,19 @@ pub fn vp8model_fraction(v: i16) -> u32
 pub fn vp8model_filter_set_for_version(version: u8) -> u32
     ensures { result ≡ filter_number (filter_set_of version) }
 {
-    let set = prediction::motion_comp::filter_set_for_version(version);
-    numbers::filter_number(set)
+    numbers::filter_number(prediction::motion_comp::filter_set_for_version(version))
 }
 
 pub fn vp8model_interp(selector: u32, support: &[u8; 6]) -> Sample
     ensures { result ≡ sample_numbers (first_of (selector_lines selector) (filtered (sixtap selector) (λ k. get_or support.now k 0))) }
 {
-    let answer = sixtap::interp(selector, *support);
-    numbers::sample_numbers(answer)
+    numbers::sample_numbers(sixtap::interp(selector, *support))
 }
 
 pub fn vp8model_sixtap_mb_luma(halo: &[u8; 441], mx: u32, my: u32, block: &mut [u8; 256]) -> Status
     ensures { Fills (filter_lines mx my) (filtered_mb sixtap mx my halo.now) block.old result block.new }
 {
-    let made = sixtap::sixtap_mb_luma(*halo, mx, my);
-    let answer = made.answer;
-    if let FilterAnswer::Filtered = answer {
-        let filled = made.block;
-        *block = filled;
-        Status { refusal: 0 }
-    } else {
-        Status { refusal: 13 }
-    }
+    store(sixtap::sixtap_mb_luma(*halo, mx, my), block)
 }
 
 pub fn vp8model_bilinear_mb_luma(
@@ -79,13 +68,5 @@ pub fn vp8model_bilinear_mb_luma(
 ) -> Status
     ensures { Fills (filter_lines mx my) (filtered_mb bilinear mx my halo.now) block.old result block.new }
 {
-    let made = bilinear::bilinear_mb_luma(*halo, mx, my);
-    let answer = made.answer;
-    if let FilterAnswer::Filtered = answer {
-        let filled = made.block;
-        *block = filled;
-        Status { refusal: 0 }
-    } else {
-        Status { refusal: 13 }
-    }
+    store(bilinear::bilinear_mb_luma(*halo, mx, my), block)
 }

@@ -6,4 +6,5 @@ pub mod motion_search;
 mod refinement;
 mod refusals;
 mod sads;
+mod targets;
 mod vectors;

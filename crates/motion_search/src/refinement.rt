@@ -3,59 +3,40 @@ ghost use Rattle.std.specs.Prelude.{◌≡◌, ◌≤◌};
 ghost use Rattle.laws.specs.Best.{better_of};
 ghost use Rattle.search.specs.Search.{refine};
 ghost use Rattle.prediction.specs.Filter.{taps_of};
-ghost use Rattle.search.specs.Internal.{cost_by, Ready, Room};
+ghost use Rattle.search.specs.Internal.{cost_by, Room};
 
-use crate::sads::any_sad;
+use crate::targets::Target;
 use crate::vectors::raster_of;
 use prediction::motion_comp::FilterSet;
 use prediction::motion_vector::Mv;
-use search::{SearchResult, Site};
+use search::SearchResult;
 
-// The better of the best so far and a vector, measured up to the best SAD: only a smaller SAD replaces the best.
-fn try_mv(
-    plane: &[u8],
-    s: Site,
-    src: &[u8],
-    best: SearchResult,
-    mv: Mv,
-    set: FilterSet,
-) -> SearchResult
-    requires ready { Ready plane.now s src.now }
-    requires sad_value { best.sad ≡ cost_by (taps_of set) plane.now s src.now best.mv }
-    ensures mv_value { result.mv ≡ better_of (cost_by (taps_of set) plane.now s src.now) best.mv mv }
-    ensures sad_value_2 { result.sad ≡ cost_by (taps_of set) plane.now s src.now result.mv }
-{
-    let read = any_sad(plane, s, src, mv, best.sad, set);
-    if read.sad < best.sad {
-        return SearchResult {
-            mv: mv,
-            sad: read.sad,
-        };
+impl Target<'_> {
+    // The better of the best so far and a vector, measured up to the best SAD: only a smaller SAD replaces the best.
+    fn try_mv(&self, best: SearchResult, mv: Mv, set: FilterSet) -> SearchResult
+        requires { best.sad ≡ cost_by (taps_of set) self.now.plane.now self.now.site self.now.src.now best.mv }
+        ensures mv_value { result.mv ≡ better_of (cost_by (taps_of set) self.now.plane.now self.now.site self.now.src.now) best.mv mv }
+        ensures sad_value { result.sad ≡ cost_by (taps_of set) self.now.plane.now self.now.site self.now.src.now result.mv }
+    {
+        let read = self.any_sad(mv, best.sad, set);
+        if read.sad < best.sad {
+            SearchResult { mv, sad: read.sad }
+        } else {
+            best
+        }
     }
-    best
-}
 
-// The best of the centre, given with its SAD, and its eight neighbours at a step.
-pub(crate) fn refine_at(
-    plane: &[u8],
-    s: Site,
-    src: &[u8],
-    first: SearchResult,
-    step: u32,
-    set: FilterSet,
-) -> SearchResult
-    requires ready { Ready plane.now s src.now }
-    requires sad_value { first.sad ≡ cost_by (taps_of set) plane.now s src.now first.mv }
-    requires step_bound { (step ≤ 2) × Room step first.mv }
-    ensures { result ≡ refine (cost_by (taps_of set) plane.now s src.now) step first.mv }
-{
-    let center = first.mv;
-    let mut best = first;
-    let mut k: u32 = 0;
-    while k < 8 {
-        let mv = raster_of(center, step, k);
-        best = try_mv(plane, s, src, best, mv, set);
-        k += 1;
+    // The best of the centre, given with its SAD, and its eight neighbours at a step: 1 or 2, a number and not a kind, since it is added.
+    pub(crate) fn refine_at(&self, first: SearchResult, step: u32, set: FilterSet) -> SearchResult
+        requires sad_value { first.sad ≡ cost_by (taps_of set) self.now.plane.now self.now.site self.now.src.now first.mv }
+        requires step_bound { (step ≤ 2) × Room step first.mv }
+        ensures { result ≡ refine (cost_by (taps_of set) self.now.plane.now self.now.site self.now.src.now) step first.mv }
+    {
+        let mut best = first;
+        for k in 0..8 {
+            let mv = raster_of(first.mv, step, k);
+            best = self.try_mv(best, mv, set);
+        }
+        best
     }
-    best
 }

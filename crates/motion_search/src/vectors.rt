@@ -1,24 +1,12 @@
 // Vectors that the searches visit.
 ghost use Rattle.std.specs.Prelude.{◌≡◌, ◌+◌, ◌≤◌, ◌<◌, nat_abs};
 ghost use Rattle.laws.specs.Signed.{above, below};
-ghost use Rattle.search.specs.Search.{clamped_mv, cut_to4, on_grid, gridded, stepped, same_mv, raster_of};
+ghost use Rattle.search.specs.Search.{cut_to4, on_grid, gridded, stepped, raster_of};
 ghost use Rattle.laws.specs.Square.{square_place, step_to};
 ghost use Rattle.search.specs.Internal.{Whole, Room};
 
 use crate::motion_search::{MV_MAX, MV_MIN, WHOLE_PIXEL_STEP};
 use prediction::motion_vector::Mv;
-
-fn clamp_component(v: i16) -> i16
-    ensures { result ≡ clamped_mv v }
-{
-    if v < MV_MIN {
-        return MV_MIN;
-    }
-    if MV_MAX < v {
-        return MV_MAX;
-    }
-    v
-}
 
 // Cut toward zero to a multiple of 4.
 fn snap_to_whole_pixel(v: i16) -> i16
@@ -31,15 +19,16 @@ fn snap_to_whole_pixel(v: i16) -> i16
 fn on_grid(v: i16) -> i16
     ensures { result ≡ on_grid v }
 {
-    snap_to_whole_pixel(clamp_component(v))
+    snap_to_whole_pixel(v.clamp(MV_MIN, MV_MAX))
 }
 
 pub(crate) fn to_grid(mv: Mv) -> Mv
     ensures { result ≡ gridded mv }
 {
-    let row = on_grid(mv.row);
-    let col = on_grid(mv.col);
-    Mv { row: row, col: col }
+    Mv {
+        row: on_grid(mv.row),
+        col: on_grid(mv.col),
+    }
 }
 
 // A neighbour of a whole vector.
@@ -48,20 +37,10 @@ pub(crate) fn neighbour(mv: Mv, drow: i16, dcol: i16) -> Mv
     requires drow_bound { (above drow ≤ 4) × (below drow ≤ 4) × (above dcol ≤ 4) × (below dcol ≤ 4) }
     ensures { result ≡ stepped drow dcol mv }
 {
-    let row = mv.row + drow;
-    let col = mv.col + dcol;
-    to_grid(Mv { row: row, col: col })
-}
-
-pub(crate) fn same_mv(a: Mv, b: Mv) -> bool
-    ensures { result ≡ same_mv a b }
-{
-    if a.row == b.row {
-        if a.col == b.col {
-            return true;
-        }
-    }
-    false
+    to_grid(Mv {
+        row: mv.row + drow,
+        col: mv.col + dcol,
+    })
 }
 
 // A component less one step, and as many steps more as the place says.
@@ -77,10 +56,7 @@ fn place_of(k: u32) -> u32
     requires { k < 8 }
     ensures { result ≡ square_place k }
 {
-    if k < 4 {
-        return k;
-    }
-    k + 1
+    if k < 4 { k } else { k + 1 }
 }
 
 // Neighbour k of a vector, in raster order.
@@ -89,7 +65,8 @@ pub(crate) fn raster_of(mv: Mv, step: u32, k: u32) -> Mv
     ensures { result ≡ raster_of mv step k }
 {
     let place = place_of(k);
-    let row = step_to(mv.row, place / 3, step);
-    let col = step_to(mv.col, place % 3, step);
-    Mv { row: row, col: col }
+    Mv {
+        row: step_to(mv.row, place / 3, step),
+        col: step_to(mv.col, place % 3, step),
+    }
 }

@@ -1,6 +1,6 @@
 -- Outcomes as the numbers that C gets, one definition for each result: refusal 0 with the answer, or the refusal's number with its values.
 -- All other numbers are 0. Assumes nothing.
-use Rattle.std.specs.Prelude.{◌≡◌, Bool, true, false, cond, List, ℕ, eqb, get_or, ℤ, pos}
+use Rattle.std.specs.Prelude.{◌≡◌, Bool, true, false, cond, List, ℕ, eqb, get_or, ℤ, pos, ⊤}
 use Rattle.laws.specs.Outcome.{Outcome, refused, accepted, Line, first_of, after}
 use Rattle.prediction.specs.declared.motion_vector.Mv.{Mv}
 use Rattle.prediction.specs.Plane.{Plane}
@@ -9,9 +9,14 @@ use Rattle.prediction.specs.declared.motion_comp.FilterSet.{FilterSet}
 use Rattle.prediction.specs.declared.motion_comp.FilterSet.TheVariants.{Sixtap, Bilinear}
 use Rattle.search.specs.declared.SearchResult.{SearchResult}
 use Rattle.search.specs.declared.DiamondResult.{DiamondResult}
+use Rattle.search.specs.declared.PlaceRefusal.{PlaceRefusal}
+use Rattle.search.specs.declared.SearchRefusal.{SearchRefusal}
+use Rattle.search.specs.declared.picture.PictureRefusal.{PictureRefusal}
+use Rattle.search.specs.declared.allowance.AllowanceRefusal.{AllowanceRefusal}
 use Rattle.search.specs.declared.allowance.PictureWork.{PictureWork}
-use Rattle.search.specs.Picture.{Lists, picture_expected, PictureSearched}
-use Rattle.search.specs.Allowance.{allowance_expected, AllowanceIs}
+use Rattle.search.specs.Refusals.{place_refusal, search_refusal}
+use Rattle.search.specs.Picture.{Lists, picture_expected, picture_refusal, PictureSearched}
+use Rattle.search.specs.Allowance.{allowance_expected, allowance_refusal, AllowanceIs}
 use Rattle.window.specs.declared.Size.{Size}
 use Rattle.denoiser.specs.declared.Built.{Built}
 use Rattle.numbers.specs.declared.answers.Status.{Status}
@@ -43,6 +48,19 @@ mv_of row col = record { row = row; col = col }
 abbrev pub number_of : {A : Type 0} → Outcome A → ℕ
 number_of (accepted a) = 0
 number_of (refused k values) = k
+
+-- the number of each refusal
+abbrev pub place_number : PlaceRefusal → ℕ
+place_number r = number_of (place_refusal {A = ⊤} r)
+
+abbrev pub search_number : SearchRefusal → ℕ
+search_number r = number_of (search_refusal {A = ⊤} r)
+
+abbrev pub picture_number : PictureRefusal → ℕ
+picture_number r = number_of (picture_refusal {A = ⊤} r)
+
+abbrev pub allowance_number : AllowanceRefusal → ℕ
+allowance_number r = number_of (allowance_refusal {A = ⊤} r)
 
 abbrev pub status_numbers : {A : Type 0} → Outcome A → Status
 status_numbers o = record { refusal = number_of o }

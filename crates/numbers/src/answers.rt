@@ -2,14 +2,14 @@
 
 // Whether a call that fills an array was accepted.
 #[repr(C)]
-#[derive(Clone, Copy)]
+#[derive(Clone, Copy, Debug, Default, PartialEq, Eq)]
 pub struct Status {
     pub refusal: u32,
 }
 
 // One filtered sample.
 #[repr(C)]
-#[derive(Clone, Copy)]
+#[derive(Clone, Copy, Debug, Default, PartialEq, Eq)]
 pub struct Sample {
     pub refusal: u32,
     pub sample: u32,
@@ -17,7 +17,7 @@ pub struct Sample {
 
 // A motion vector; never refused.
 #[repr(C)]
-#[derive(Clone, Copy)]
+#[derive(Clone, Copy, Debug, Default, PartialEq, Eq)]
 pub struct Vector {
     pub refusal: u32,
     pub row: i16,
@@ -26,7 +26,7 @@ pub struct Vector {
 
 // The sum of absolute differences (SAD) of a macroblock.
 #[repr(C)]
-#[derive(Clone, Copy)]
+#[derive(Clone, Copy, Debug, Default, PartialEq, Eq)]
 pub struct Sad {
     pub refusal: u32,
     pub sad: u32,
@@ -34,7 +34,7 @@ pub struct Sad {
 
 // The SAD of two blocks up to a ceiling, and the rows measured; never refused.
 #[repr(C)]
-#[derive(Clone, Copy)]
+#[derive(Clone, Copy, Debug, Default, PartialEq, Eq)]
 pub struct Ceiled {
     pub refusal: u32,
     pub sad: u32,
@@ -43,7 +43,7 @@ pub struct Ceiled {
 
 // The best vector of a refinement and its SAD.
 #[repr(C)]
-#[derive(Clone, Copy)]
+#[derive(Clone, Copy, Debug, Default, PartialEq, Eq)]
 pub struct Search {
     pub refusal: u32,
     pub row: i16,
@@ -53,7 +53,7 @@ pub struct Search {
 
 // The diamond's last best, its SAD and its two counts.
 #[repr(C)]
-#[derive(Clone, Copy)]
+#[derive(Clone, Copy, Debug, Default, PartialEq, Eq)]
 pub struct Diamond {
     pub refusal: u32,
     pub row: i16,
@@ -65,7 +65,7 @@ pub struct Diamond {
 
 // The macroblocks of a picture that were searched.
 #[repr(C)]
-#[derive(Clone, Copy)]
+#[derive(Clone, Copy, Debug, Default, PartialEq, Eq)]
 pub struct Picture {
     pub refusal: u32,
     pub macroblocks: u32,
@@ -73,7 +73,7 @@ pub struct Picture {
 
 // The macroblocks of a picture that were searched within an allowance, and the comparisons made for them.
 #[repr(C)]
-#[derive(Clone, Copy)]
+#[derive(Clone, Copy, Debug, Default, PartialEq, Eq)]
 pub struct Allowed {
     pub refusal: u32,
     pub macroblocks: u32,
@@ -82,7 +82,7 @@ pub struct Allowed {
 
 // A builder's answer, or the values of its refusal.
 #[repr(C)]
-#[derive(Clone, Copy)]
+#[derive(Clone, Copy, Debug, Default, PartialEq, Eq)]
 pub struct Build {
     pub refusal: u32,
     pub width: u32,

@@ -1,25 +1,23 @@
 -- The search within an allowance: a turn of its loop, and from the checks' answer and what the loop leaves to what the call promises.
 -- Assumes nothing.
-use mathlib.Core.Path.{◌≡◌, refl, sym, ap, ◌∙◌}
-use mathlib.Core.Bool.{Bool, true, false, cond}
-use mathlib.Core.List.{List, [], ◌∷◌}
-use Prim.Native.Nat.{ℕ, ◌+◌, ◌-◌, ◌*◌, ◌≤◌, ◌<◌}
-use native.Mathlib.Numerals.{add-one}
-use native.Mathlib.Omega.{arith}
-use Rattle.laws.specs.Outcome.{Outcome, refused, accepted, Line, line, first_of}
-use Rattle.laws.proofs.Outcome.{never, refused_alike, refused-first, accepted-first}
+use Rattle.std.specs.Prelude.{◌≡◌, List, [], ◌∷◌, ℕ, ◌+◌, ◌-◌, ◌*◌, ◌≤◌, ◌<◌, Result, Ok, Err}
+use Rattle.std.specs.Result.{IsErrAnd}
+use Rattle.std.proofs.Common.{refl, sym, ap, ◌∙◌, add-one, arith}
+use Rattle.laws.specs.Outcome.{refused, Line, line}
+use Rattle.laws.proofs.Outcome.{refused-first}
 use Rattle.prediction.specs.Plane.{Plane}
 use Rattle.prediction.specs.Filter.{FilterRows, rows_for}
 use Rattle.search.specs.declared.picture.SearchedMb.{SearchedMb}
-use Rattle.search.specs.declared.picture.PictureAnswer.{PictureAnswer}
-use Rattle.search.specs.declared.picture.PictureAnswer.TheVariants.{Searched, BadSize, ShortPlane, ShortSource, ShortList, BadVersion}
+use Rattle.search.specs.declared.picture.PictureRefusal.{PictureRefusal}
+use Rattle.search.specs.declared.picture.PictureRefusal.TheVariants.{BadSize, ShortPlane, ShortSource, ShortList, BadVersion}
 use Rattle.search.specs.declared.allowance.PictureWork.{PictureWork}
-use Rattle.search.specs.Picture.{mb_count, picture_at, Lists, picture_lines, picture_expected, picture_outcome}
-use Rattle.search.specs.Allowance.{grant_of, rounds_for, remains, grant_at, spent, picture_made, allowed_at, work_of, low_allowance, allowance_expected, AllowanceIs}
+use Rattle.search.specs.declared.allowance.AllowanceRefusal.{AllowanceRefusal}
+use Rattle.search.specs.declared.allowance.AllowanceRefusal.TheVariants.{Picture}
+use Rattle.search.specs.Picture.{mb_count, picture_at, Lists, picture_lines, picture_expected, picture_refusal}
+use Rattle.search.specs.Allowance.{grant_of, rounds_for, remains, grant_at, spent, picture_made, allowed_at, work_of, low_allowance, allowance_outcome, AllowanceIs}
 use Rattle.search.proofs.Sharing.{grant_19, made-remains, account}
 use Rattle.search.proofs.Allowances.{picture_keeps}
-use Rattle.picture_search.specs.Internal.{Filled, RefusedAs}
-use Rattle.picture_search.proofs.Promise.{filled_as, kept_at}
+use Rattle.picture_search.proofs.Promise.{kept_at}
 
 -- before macroblock i of n what remains is known
 module _ (set : FilterRows) (plane source : Plane) (allowance n i r : ℕ) (count : n ≡ mb_count plane)
@@ -66,13 +64,6 @@ module _ (set : FilterRows) (plane source : Plane) (allowance n i r : ℕ) (coun
     pub spent_is : allowance - r ≡ spent made allowance n
     spent_is = omega (arith, whole)
 
--- a refusal of the whole-picture search, handed on
-pub handed_on : (o : Outcome ℕ) (p : Outcome PictureWork) (m : ℕ) (u : List ℕ) → o ≡ refused m u → p ≡ refused m u → RefusedAs o p
-handed_on o p m u e f k v g = f ∙ refused_alike m k u v (sym e ∙ g)
-
-pub none_handed : (o : Outcome ℕ) (p : Outcome PictureWork) (n : ℕ) → o ≡ accepted n → RefusedAs o p
-none_handed o p n e k v g = absurd (never k v n (sym g ∙ e))
-
 -- what the call promises, by what the checks expect
 module _ (version allowance : ℕ) (plane source : Plane) (l : Lists) where
   abbrev at : ℕ → SearchedMb
@@ -84,31 +75,19 @@ module _ (version allowance : ℕ) (plane source : Plane) (l : Lists) where
   abbrev work : PictureWork
   work = work_of (rows_for version) plane source allowance
 
-  -- where they accept, line 30 decides
-  module _ (n : ℕ) (found : picture_expected version plane source l ≡ accepted n) where
-    by_30 : allowance_expected version plane source allowance l ≡ first_of only_30 work
-    by_30 = accepted-first (picture_lines version plane source l) only_30 (mb_count plane) n work found
-
-    pub low_is : low_allowance allowance (mb_count plane) ≡ true → AllowanceIs version allowance plane source (refused 30 []) l l
-    low_is e = kept_at _ (mb_count plane) at l 30 [] (sym (by_30 ∙ ap (λ (t : Bool). cond t (refused 30 []) (accepted work)) e))
-
-    pub worked_is : low_allowance allowance (mb_count plane) ≡ false → (held : Lists) (c : ℕ) → n ≡ mb_count plane
-        → c ≡ spent (picture_made (rows_for version) plane source) allowance n → Filled n at l held
-        → AllowanceIs version allowance plane source (accepted (record { macroblocks = n; comparisons = c })) l held
-    worked_is e held c count made h =
-        let f : allowance_expected version plane source allowance l ≡ accepted work = by_30 ∙ ap (λ (t : Bool). cond t (refused 30 []) (accepted work)) e in
-        filled_as _ _ (mb_count plane) n at l held (f ∙ rw (made, count) refl) count h
-
   -- a refusal of theirs is the call's
-  refusal_is : (p : Outcome PictureWork) (k : ℕ) (v : List ℕ) → refused k v ≡ picture_expected version plane source l → p ≡ refused k v
-      → AllowanceIs version allowance plane source p l l
-  refusal_is p k v e f = rw f (kept_at _ (mb_count plane) at l k v (sym (refused-first (picture_lines version plane source l) only_30 (mb_count plane) work k v (sym e))))
+  refusal_is : (k : ℕ) (v : List ℕ) → refused k v ≡ picture_expected version plane source l → AllowanceIs version allowance plane source (refused k v) l l
+  refusal_is k v e = kept_at _ (mb_count plane) at l k v (sym (refused-first (picture_lines version plane source l) only_30 (mb_count plane) work k v (sym e)))
 
-  pub refused_is : (a : PictureAnswer) (p : Outcome PictureWork) → ((m : ℕ) → a ≡ Searched m → ⊥)
-      → picture_outcome a ≡ picture_expected version plane source l → RefusedAs (picture_outcome a) p → AllowanceIs version allowance plane source p l l
-  refused_is (Searched m) p k e r = absurd (k m refl)
-  refused_is BadSize p k e r = refusal_is p 8 [] e (r 8 [] refl)
-  refused_is ShortPlane p k e r = refusal_is p 9 [] e (r 9 [] refl)
-  refused_is ShortSource p k e r = refusal_is p 14 [] e (r 14 [] refl)
-  refused_is ShortList p k e r = refusal_is p 15 [] e (r 15 [] refl)
-  refused_is BadVersion p k e r = refusal_is p 23 [] e (r 23 [] refl)
+  refused_is : (r : PictureRefusal) → picture_refusal r ≡ picture_expected version plane source l
+      → AllowanceIs version allowance plane source (picture_refusal r) l l
+  refused_is BadSize e = refusal_is 8 [] e
+  refused_is ShortPlane e = refusal_is 9 [] e
+  refused_is ShortSource e = refusal_is 14 [] e
+  refused_is ShortList e = refusal_is 15 [] e
+  refused_is BadVersion e = refusal_is 23 [] e
+
+  pub handed_on : (r : Result PictureWork AllowanceRefusal) (x : PictureRefusal) → IsErrAnd r (λ e. e ≡ Picture x)
+      → picture_refusal x ≡ picture_expected version plane source l → AllowanceIs version allowance plane source (allowance_outcome r) l l
+  handed_on (Err e) x g h = rw g (refused_is x h)
+  handed_on (Ok w) x g h = absurd g

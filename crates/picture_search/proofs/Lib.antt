@@ -1,3 +1,4 @@
 pub mod Reached
 pub mod Promise
+pub mod Filling
 pub mod Allowed

@@ -1,13 +1,19 @@
 -- What the private functions ask of their arguments. No public contract uses these definitions. Assumes nothing.
-use Rattle.std.specs.Prelude.{◌≡◌, false, List, ℕ, ◌≤◌}
+use Rattle.std.specs.Prelude.{◌≡◌, false, ℕ, ◌≤◌, set}
 use Rattle.laws.specs.Front.{front}
-use Rattle.laws.specs.Outcome.{Outcome, refused}
-use Rattle.prediction.specs.declared.motion_vector.Mv.{Mv}
-use Rattle.prediction.specs.Plane.{Plane}
+use Rattle.prediction.specs.Plane.{Plane, luma_plane}
 use Rattle.prediction.specs.Refusals.{bad_size, short_plane}
 use Rattle.search.specs.declared.picture.SearchedMb.{SearchedMb}
-use Rattle.search.specs.Refusals.{bad_macroblock, out_of_range, off_grid}
+use Rattle.search.specs.Refusals.{bad_macroblock}
 use Rattle.search.specs.Picture.{Lists}
+use Rattle.picture_search.specs.declared.Planes.{Planes}
+
+-- the two planes of a picture
+abbrev pub reference_of : Planes → Plane
+reference_of p = luma_plane p.plane.now p.stride p.width p.height
+
+abbrev pub source_of : Planes → Plane
+source_of p = luma_plane p.source.now p.source_stride p.width p.height
 
 -- none of 8, 9 and 10 applies to a plane and a macroblock's column and row
 pub record Placed (p : Plane) (column row : ℕ) : Type 0 where
@@ -15,10 +21,11 @@ pub record Placed (p : Plane) (column row : ℕ) : Type 0 where
   pub long : short_plane p ≡ false
   pub place : bad_macroblock column row ≡ false
 
--- none of 11 and 12 applies to a vector on the grid of n
-pub record Refinable (n : ℕ) (v : Mv) : Type 0 where
-  pub range : out_of_range v ≡ false
-  pub grid : off_grid n v ≡ false
+-- what the search of macroblock i leaves: its entry of each list is given
+pub record Entered (m : SearchedMb) (i : ℕ) (old held : Lists) : Type 0 where
+  pub rows : held.rows ≡ set old.rows i m.mv.row
+  pub cols : held.cols ≡ set old.cols i m.mv.col
+  pub sads : held.sads ≡ set old.sads i m.sad
 
 -- what the loop leaves: the front of each list is given
 pub record Filled (n : ℕ) (at : ℕ → SearchedMb) (old held : Lists) : Type 0 where
@@ -27,12 +34,8 @@ pub record Filled (n : ℕ) (at : ℕ → SearchedMb) (old held : Lists) : Type 
   pub sads : held.sads ≡ front n (λ i. (at i).sad) old.sads
 
 -- a picture that can be searched: none of 23, 8, 9 and 14 applies
-pub record Legal (version : ℕ) (plane source : Plane) : Type 0 where
+pub record Legal (version : ℕ) (p : Planes) : Type 0 where
   pub known : version ≤ 2
-  pub size : bad_size plane ≡ false
-  pub long : short_plane plane ≡ false
-  pub source-long : short_plane source ≡ false
-
--- a refusal is given as the same one
-abbrev pub RefusedAs : {A B : Type 0} → Outcome A → Outcome B → Type 0
-RefusedAs o p = (k : ℕ) (v : List ℕ) → o ≡ refused k v → p ≡ refused k v
+  pub size : bad_size (reference_of p) ≡ false
+  pub long : short_plane (reference_of p) ≡ false
+  pub source-long : short_plane (source_of p) ≡ false

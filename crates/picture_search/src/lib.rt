@@ -3,137 +3,125 @@
 
 pub mod allowance;
 
-ghost use Rattle.std.specs.Prelude.{◌≡◌, ◌||◌, ◌*◌, ◌/◌, ◌+◌, ◌≤◌, ltb, length};
+ghost use Rattle.std.specs.Prelude.{◌≡◌, false, ◌||◌, ◌*◌, ◌/◌, ◌+◌, ◌≤◌, ◌<◌, ltb, length};
 ghost use Rattle.prediction.specs.Plane.{luma_plane};
 ghost use Rattle.prediction.specs.Filter.{rows_for};
-ghost use Rattle.search.specs.Search.{diamond, refine};
-ghost use Rattle.search.specs.Picture.{mb_count, source_block, zero_mv, searched_at, picture_at, lists, picture_expected, picture_outcome, PictureSearched};
-ghost use Rattle.search.specs.Internal.{plane_of, cost_at, cost_by};
-ghost use Rattle.picture_search.specs.Internal.{Placed, Refinable, Legal, Filled};
+ghost use Rattle.search.specs.Sad.{cost_of};
+ghost use Rattle.search.specs.Search.{diamond};
+ghost use Rattle.search.specs.Refusals.{bad_macroblock};
+ghost use Rattle.search.specs.Picture.{mb_count, source_block, searched_at, picture_at, zero_mv, lists, picture_expected, picture_outcome, PictureSearched};
+ghost use Rattle.picture_search.specs.Internal.{reference_of, source_of, Placed, Legal, Entered, Filled};
 
 use fetch::{bad_size, fetch_luma_mb_whole_pixel, short_plane};
 use motion_search::motion_search::{
     half_pixel_refine_luma, quarter_pixel_refine_luma, small_diamond_search_luma,
 };
 use prediction::motion_vector::Mv;
-use search::picture::{PictureAnswer, SearchedMb};
-use search::{DiamondAnswer, DiamondResult, SearchAnswer, SearchResult, Site};
+use search::DiamondResult;
+use search::picture::{PictureRefusal, SearchedMb};
 
 // Where every diamond starts.
-fn zero_mv() -> Mv
-    ensures { result ≡ zero_mv }
-{
-    Mv { row: 0, col: 0 }
+const ZERO_MV: Mv = Mv { row: 0, col: 0 };
+
+// The reference plane and the source plane, of one size. No ghost field says that they are legal: `checked` takes those that are not.
+#[derive(Clone, Copy)]
+struct Planes<'a> {
+    plane: &'a [u8],
+    stride: usize,
+    width: usize,
+    height: usize,
+    source: &'a [u8],
+    source_stride: usize,
 }
 
 // A macroblock's samples of the source plane.
-fn source_block(source: &[u8], s: Site) -> [u8; 256]
-    requires { Placed (plane_of source.now s) s.column s.row }
-    ensures { result ≡ source_block (plane_of source.now s) s.column s.row }
+fn source_block(p: Planes, column: usize, row: usize) -> [u8; 256]
+    requires { Placed (source_of p) column row }
+    ensures { result ≡ source_block (source_of p.entry) column row }
 {
-    let fetched = fetch_luma_mb_whole_pixel(
-        source,
-        s.stride,
-        s.width,
-        s.height,
-        16 * s.column,
-        16 * s.row,
-        zero_mv(),
-    );
-    fetched.block
+    fetch_luma_mb_whole_pixel(
+        p.source,
+        p.source_stride,
+        p.width,
+        p.height,
+        16 * column,
+        16 * row,
+        ZERO_MV,
+    )
+    .block
 }
 
 // The diamond, which is not refused here.
-fn whole_search(plane: &[u8], s: Site, src: &[u8; 256], max_iters: u32) -> DiamondResult
-    requires { Placed (plane_of plane.now s) s.column s.row }
-    ensures { result ≡ diamond (cost_at plane.now s src.now) zero_mv max_iters }
-{
-    let start = zero_mv();
-    let answer = small_diamond_search_luma(
-        plane, s.stride, s.width, s.height, s.column, s.row, src, start, max_iters,
-    );
-    match answer {
-        DiamondAnswer::Found(found) => found,
-        _ => DiamondResult {
-            mv: start,
-            sad: 0,
-            sads: 0,
-            rounds: 0,
-        },
-    }
-}
-
-// The half refinement of a whole vector, which is not refused here.
-fn half_search(plane: &[u8], s: Site, src: &[u8; 256], center: Mv, version: u8) -> SearchResult
-    requires { Placed (plane_of plane.now s) s.column s.row × Refinable 4 center × (version ≤ 2) }
-    ensures { result ≡ refine (cost_by (rows_for version) plane.now s src.now) 2 center }
-{
-    let answer = half_pixel_refine_luma(
-        plane, s.stride, s.width, s.height, s.column, s.row, src, center, version,
-    );
-    match answer {
-        SearchAnswer::Found(found) => found,
-        _ => SearchResult { mv: center, sad: 0 },
-    }
-}
-
-// The quarter refinement of a vector on the grid of half pixels, which is not refused here.
-fn quarter_search(plane: &[u8], s: Site, src: &[u8; 256], center: Mv, version: u8) -> SearchResult
-    requires { Placed (plane_of plane.now s) s.column s.row × Refinable 2 center × (version ≤ 2) }
-    ensures { result ≡ refine (cost_by (rows_for version) plane.now s src.now) 1 center }
-{
-    let answer = quarter_pixel_refine_luma(
-        plane, s.stride, s.width, s.height, s.column, s.row, src, center, version,
-    );
-    match answer {
-        SearchAnswer::Found(found) => found,
-        _ => SearchResult { mv: center, sad: 0 },
-    }
-}
-
-// The three searches of one macroblock, and the SADs computed.
-fn search_mb(
-    plane: &[u8],
-    s: Site,
-    source: &[u8],
-    source_stride: usize,
+fn whole_search(
+    p: Planes,
+    column: usize,
+    row: usize,
+    src: &[u8; 256],
     max_iters: u32,
-    version: u8,
-) -> SearchedMb
-    requires placed { Placed (plane_of plane.now s) s.column s.row }
-    requires placed_2 { Placed (luma_plane source.now source_stride s.width s.height) s.column s.row }
-    requires version_bound { version ≤ 2 }
-    ensures { result
-        ≡ searched_at (rows_for version) (plane_of plane.now s) (luma_plane source.now source_stride s.width s.height)
-        max_iters s.column s.row }
+) -> DiamondResult
+    requires { Placed (reference_of p) column row }
+    ensures found { result ≡ diamond (cost_of (reference_of p.entry) column row src.now) zero_mv max_iters }
+    ensures few { result.sads ≤ 261125 }
 {
-    let there = Site {
-        stride: source_stride,
-        width: s.width,
-        height: s.height,
-        column: s.column,
-        row: s.row,
-    };
-    let src = source_block(source, there);
-    let whole = whole_search(plane, s, &src, max_iters);
-    let half = half_search(plane, s, &src, whole.mv, version);
-    let quarter = quarter_search(plane, s, &src, half.mv, version);
-    let mv = quarter.mv;
+    small_diamond_search_luma(
+        p.plane, p.stride, p.width, p.height, column, row, src, ZERO_MV, max_iters,
+    )
+    .unwrap()
+}
+
+// The three searches of one macroblock, none of which is refused here, and the SADs computed.
+fn search_mb(p: Planes, column: usize, row: usize, max_iters: u32, version: u8) -> SearchedMb
+    requires legal { Legal version p }
+    requires place { bad_macroblock column row ≡ false }
+    ensures { result ≡ searched_at (rows_for version) (reference_of p.entry) (source_of p.entry) max_iters column row }
+{
+    let src = source_block(p, column, row);
+    let whole = whole_search(p, column, row, &src, max_iters);
+    let half = half_pixel_refine_luma(
+        p.plane, p.stride, p.width, p.height, column, row, &src, whole.mv, version,
+    )
+    .unwrap();
+    let quarter = quarter_pixel_refine_luma(
+        p.plane, p.stride, p.width, p.height, column, row, &src, half.mv, version,
+    )
+    .unwrap();
     SearchedMb {
-        mv: mv,
+        mv: quarter.mv,
         sad: quarter.sad,
         sads: whole.sads + 18,
     }
 }
 
+// Searches macroblock i within a round limit, into its entry of the lists; gives the SADs computed.
+// The lists stay three slices: a record of three `&mut` would need clauses that each still lends the same list.
+fn search_entry(
+    p: Planes,
+    i: usize,
+    max_iters: u32,
+    version: u8,
+    rows: &mut [i16],
+    cols: &mut [i16],
+    sads: &mut [u32],
+) -> u32
+    requires legal { Legal version p }
+    requires here { i < mb_count (reference_of p) }
+    requires room { (i < length rows.old) × (i < length cols.old) × (i < length sads.old) }
+    ensures { (result ≡ (picture_at (rows_for version) (reference_of p.entry) (source_of p.entry) max_iters i).sads)
+        × Entered (picture_at (rows_for version) (reference_of p.entry) (source_of p.entry) max_iters i) i
+        (lists rows.old cols.old sads.old)
+        (lists rows.new cols.new sads.new) }
+{
+    let columns = (p.width + 15) / 16;
+    let found = search_mb(p, i % columns, i / columns, max_iters, version);
+    rows[i] = found.mv.row;
+    cols[i] = found.mv.col;
+    sads[i] = found.sad;
+    found.sads
+}
+
 // All macroblocks in raster order, each into its entry of the lists.
 fn search_all(
-    plane: &[u8],
-    stride: usize,
-    width: usize,
-    height: usize,
-    source: &[u8],
-    source_stride: usize,
+    p: Planes,
     max_iters: u32,
     version: u8,
     count: usize,
@@ -141,36 +129,20 @@ fn search_all(
     cols: &mut [i16],
     sads: &mut [u32],
 )
-    requires legal { Legal version (luma_plane plane.now stride width height) (luma_plane source.now source_stride width height) }
-    requires count_value { count ≡ mb_count (luma_plane plane.now stride width height) }
+    requires legal { Legal version p }
+    requires count_value { count ≡ mb_count (reference_of p) }
     requires count_in_bounds { (count ≤ length rows.old) × (count ≤ length cols.old) × (count ≤ length sads.old) }
     ensures { Filled count
-        (picture_at (rows_for version) (luma_plane plane.now stride width height)
-        (luma_plane source.now source_stride width height) max_iters)
+        (picture_at (rows_for version) (reference_of p.entry) (source_of p.entry) max_iters)
         (lists rows.old cols.old sads.old)
         (lists rows.new cols.new sads.new) }
 {
-    let columns = (width + 15) / 16;
-    let mut i = 0;
-    while i < count {
-        let s = Site {
-            stride: stride,
-            width: width,
-            height: height,
-            column: i % columns,
-            row: i / columns,
-        };
-        let found = search_mb(plane, s, source, source_stride, max_iters, version);
-        let row = found.mv.row;
-        let col = found.mv.col;
-        rows[i] = row;
-        cols[i] = col;
-        sads[i] = found.sad;
-        i += 1;
+    for i in 0..count {
+        search_entry(p, i, max_iters, version, rows, cols, sads);
     }
 }
 
-// The macroblocks of a picture.
+// The macroblocks of a picture, as document 02 writes them: `div_ceil` would be no plainer, and its proof is longer.
 fn mb_count(width: usize, height: usize) -> usize
     requires { (width ≤ 16383) × (height ≤ 16383) }
     ensures { (result ≡ (width + 15) / 16 * ((height + 15) / 16)) × (result ≤ 1048576) }
@@ -184,49 +156,37 @@ fn mb_count(width: usize, height: usize) -> usize
 fn short_list(count: usize, rows: usize, cols: usize, sads: usize) -> bool
     ensures { result ≡ (ltb rows count || (ltb cols count || ltb sads count)) }
 {
-    if rows < count {
-        return true;
-    }
-    if cols < count {
-        return true;
-    }
-    sads < count
+    rows < count || cols < count || sads < count
 }
 
 // The first refusal that applies; where none does, the macroblocks' count.
 fn checked(
-    plane: &[u8],
-    stride: usize,
-    width: usize,
-    height: usize,
-    source: &[u8],
-    source_stride: usize,
+    p: Planes,
     version: u8,
     rows: &[i16],
     cols: &[i16],
     sads: &[u32],
-) -> PictureAnswer
+) -> Result<u32, PictureRefusal>
     ensures { picture_outcome result
-        ≡ picture_expected version (luma_plane plane.now stride width height) (luma_plane source.now source_stride width height)
-        (lists rows.now cols.now sads.now) }
+        ≡ picture_expected version (reference_of p.entry) (source_of p.entry) (lists rows.now cols.now sads.now) }
 {
     if 2 < version {
-        return PictureAnswer::BadVersion;
+        return Err(PictureRefusal::BadVersion);
     }
-    if bad_size(width, height) {
-        return PictureAnswer::BadSize;
+    if bad_size(p.width, p.height) {
+        return Err(PictureRefusal::BadSize);
     }
-    if short_plane(plane.len(), stride, width, height) {
-        return PictureAnswer::ShortPlane;
+    if short_plane(p.plane.len(), p.stride, p.width, p.height) {
+        return Err(PictureRefusal::ShortPlane);
     }
-    if short_plane(source.len(), source_stride, width, height) {
-        return PictureAnswer::ShortSource;
+    if short_plane(p.source.len(), p.source_stride, p.width, p.height) {
+        return Err(PictureRefusal::ShortSource);
     }
-    let count = mb_count(width, height);
+    let count = mb_count(p.width, p.height);
     if short_list(count, rows.len(), cols.len(), sads.len()) {
-        return PictureAnswer::ShortList;
+        return Err(PictureRefusal::ShortList);
     }
-    PictureAnswer::Searched(count as u32)
+    Ok(count as u32)
 }
 
 // Searches every macroblock of a picture: the diamond from the zero vector, then both refinements by a version's filter.
@@ -242,41 +202,21 @@ pub fn search_picture_luma(
     rows: &mut [i16],
     cols: &mut [i16],
     sads: &mut [u32],
-) -> PictureAnswer
+) -> Result<u32, PictureRefusal>
     ensures { PictureSearched version max_iters (luma_plane plane.now stride width height)
         (luma_plane source.now source_stride width height)
         (picture_outcome result) (lists rows.old cols.old sads.old)
         (lists rows.new cols.new sads.new) }
 {
-    let first = checked(
+    let p = Planes {
         plane,
         stride,
         width,
         height,
         source,
         source_stride,
-        version,
-        rows,
-        cols,
-        sads,
-    );
-    if let PictureAnswer::Searched(count) = first {
-        search_all(
-            plane,
-            stride,
-            width,
-            height,
-            source,
-            source_stride,
-            max_iters,
-            version,
-            count as usize,
-            rows,
-            cols,
-            sads,
-        );
-        first
-    } else {
-        first
-    }
+    };
+    let count = checked(p, version, rows, cols, sads)?;
+    search_all(p, max_iters, version, count as usize, rows, cols, sads);
+    Ok(count)
 }

@@ -1,7 +1,7 @@
 // A sum of absolute differences (SAD) that is measured up to a ceiling.
 
 // The value, which is the sum, or the ceiling where that is less; and how many rows were measured.
-#[derive(Clone, Copy)]
+#[derive(Clone, Copy, Debug, PartialEq, Eq)]
 pub struct Ceiled {
     pub sad: u32,
     pub rows: u32,

@@ -9,23 +9,17 @@ use crate::motion_vector::Mv;
 fn double(v: i16) -> i16
     ensures { result ≡ doubled v }
 {
-    let d = (v as i32) * 2;
-    if d < -32768 {
-        return (d + 65536) as i16;
-    }
-    if 32767 < d {
-        return (d - 65536) as i16;
-    }
-    d as i16
+    v.wrapping_mul(2)
 }
 
 // The vector in eighths.
 pub fn stored_luma_mv(mv: Mv) -> Mv
     ensures { result ≡ stored_mv mv }
 {
-    let row = double(mv.row);
-    let col = double(mv.col);
-    Mv { row: row, col: col }
+    Mv {
+        row: double(mv.row),
+        col: double(mv.col),
+    }
 }
 
 // A component in eighths divided by 8, rounded down.
@@ -43,7 +37,7 @@ pub fn fraction(v: i16) -> u32
 }
 
 // Which rows a frame uses.
-#[derive(Clone, Copy)]
+#[derive(Clone, Copy, Debug, PartialEq, Eq)]
 pub enum FilterSet {
     Sixtap,
     Bilinear,
@@ -53,8 +47,8 @@ pub enum FilterSet {
 pub fn filter_set_for_version(version: u8) -> FilterSet
     ensures { result ≡ filter_set_of version }
 {
-    if version == 0 {
-        return FilterSet::Sixtap;
+    match version {
+        0 => FilterSet::Sixtap,
+        _ => FilterSet::Bilinear,
     }
-    FilterSet::Bilinear
 }

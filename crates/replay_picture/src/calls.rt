@@ -1,132 +1,160 @@
 // One record: the call made, its answer and the three lists compared.
-use crate::lists::{
-    byte, comparisons, components_agree, entries_of, least, macroblocks, number, old_components,
-    old_words, part, word, words_agree,
-};
+use crate::kind::Kind;
 use picture_search::allowance::search_picture_luma_within;
 use picture_search::search_picture_luma;
-use search::allowance::AllowanceAnswer;
-use search::picture::PictureAnswer;
+use search::allowance::{AllowanceRefusal, PictureWork};
+use search::picture::PictureRefusal;
+use std::array;
+use stored::{number, part, vector};
 
-// Whether the record has the refusal's number, 0 where the call is accepted, the macroblocks counted, and the comparisons.
-fn has(record: &[u8; 128], refusal: usize, counted: u32, made: u32) -> bool {
-    number(record, 1) == refusal
-        && macroblocks(record) == counted as usize
-        && comparisons(record) == made as usize
-}
-
-fn has_answer(record: &[u8; 128], answer: PictureAnswer) -> bool {
-    match answer {
-        PictureAnswer::Searched(counted) => has(record, 0, counted, 0),
-        PictureAnswer::BadVersion => has(record, 23, 0, 0),
-        PictureAnswer::BadSize => has(record, 8, 0, 0),
-        PictureAnswer::ShortPlane => has(record, 9, 0, 0),
-        PictureAnswer::ShortSource => has(record, 14, 0, 0),
-        PictureAnswer::ShortList => has(record, 15, 0, 0),
+fn picture_number(refusal: PictureRefusal) -> usize {
+    match refusal {
+        PictureRefusal::BadSize => 8,
+        PictureRefusal::ShortPlane => 9,
+        PictureRefusal::ShortSource => 14,
+        PictureRefusal::ShortList => 15,
+        PictureRefusal::BadVersion => 23,
     }
 }
 
-fn has_work(record: &[u8; 128], answer: AllowanceAnswer) -> bool {
-    match answer {
-        AllowanceAnswer::Searched(work) => has(record, 0, work.macroblocks, work.comparisons),
-        AllowanceAnswer::BadVersion => has(record, 23, 0, 0),
-        AllowanceAnswer::BadSize => has(record, 8, 0, 0),
-        AllowanceAnswer::ShortPlane => has(record, 9, 0, 0),
-        AllowanceAnswer::ShortSource => has(record, 14, 0, 0),
-        AllowanceAnswer::ShortList => has(record, 15, 0, 0),
-        AllowanceAnswer::LowAllowance => has(record, 30, 0, 0),
+fn allowance_number(refusal: AllowanceRefusal) -> usize {
+    match refusal {
+        AllowanceRefusal::Picture(refusal) => picture_number(refusal),
+        AllowanceRefusal::LowAllowance => 30,
     }
 }
 
-// Whether each list holds the stored entries, and behind them what it held before.
-fn hold(entries: &[u8], rows: &[i16], cols: &[i16], sads: &[u32]) -> bool {
-    components_agree(rows, entries, false)
-        && components_agree(cols, entries, true)
-        && words_agree(sads, entries)
+// The macroblocks of a record, and the comparisons made for them: the lower and the upper half of its last number.
+pub(crate) fn work_of(record: &[u8; 128]) -> PictureWork {
+    let n = number(record, 15);
+    PictureWork {
+        macroblocks: (n % 4294967296) as u32,
+        comparisons: (n / 4294967296) as u32,
+    }
 }
 
-// The call with a limit, and its answer.
-fn limited(
-    plane: &[u8],
-    source: &[u8],
-    record: &[u8; 128],
-    rows: &mut [i16],
-    cols: &mut [i16],
-    sads: &mut [u32],
-) -> bool {
-    let answer = search_picture_luma(
-        plane,
-        number(record, 4),
-        number(record, 5),
-        number(record, 6),
-        source,
-        number(record, 9),
-        word(number(record, 10)),
-        byte(number(record, 11)),
-        rows,
-        cols,
-        sads,
-    );
-    has_answer(record, answer)
+// What entry k of each list holds before a call: no component and no SAD that is ever found.
+fn old_row(k: usize) -> i16 {
+    10000 + (k % 8000) as i16
 }
 
-// The call with an allowance, and its answer.
-fn allowed(
-    plane: &[u8],
-    source: &[u8],
-    record: &[u8; 128],
-    rows: &mut [i16],
-    cols: &mut [i16],
-    sads: &mut [u32],
-) -> bool {
-    let answer = search_picture_luma_within(
-        plane,
-        number(record, 4),
-        number(record, 5),
-        number(record, 6),
-        source,
-        number(record, 9),
-        word(number(record, 10)),
-        byte(number(record, 11)),
-        rows,
-        cols,
-        sads,
-    );
-    has_work(record, answer)
+fn old_col(k: usize) -> i16 {
+    30000 - (k % 8000) as i16
 }
 
-// The call of the record's kind: its answer, then each list.
-fn searches(
-    plane: &[u8],
-    source: &[u8],
-    record: &[u8; 128],
+fn old_sad(k: usize) -> u32 {
+    3000000000 + (k % 8000) as u32
+}
+
+// What is stored of a macroblock: the vector, and 2^32 times the SAD.
+fn new_row(entry: usize) -> i16 {
+    vector(entry).row
+}
+
+fn new_col(entry: usize) -> i16 {
+    vector(entry).col
+}
+
+fn new_sad(entry: usize) -> u32 {
+    (entry / 4294967296) as u32
+}
+
+// Whether a list holds what is stored of each macroblock, and behind that what it held before.
+fn holds<T: Copy + Drop + PartialEq, N: Fn(usize) -> T, O: Fn(usize) -> T>(
+    list: &[T],
     entries: &[u8],
+    new: N,
+    old: O,
+) -> bool
+    requires new_called { N.IsAlwaysCallable new }
+    requires old_called { O.IsAlwaysCallable old }
+{
+    for (k, found) in list.iter().enumerate() {
+        let expected = if k < entries.len() / 8 {
+            new(number(entries, k))
+        } else {
+            old(k)
+        };
+        if *found != expected {
+            return false;
+        }
+    }
+    true
+}
+
+// The call of a kind: what it did, or the number of its refusal.
+fn searched(
+    kind: Kind,
+    samples: &[u8],
+    record: &[u8; 128],
     rows: &mut [i16],
     cols: &mut [i16],
     sads: &mut [u32],
-) -> bool {
-    if number(record, 0) == 2 {
-        allowed(plane, source, record, rows, cols, sads) && hold(entries, rows, cols, sads)
-    } else {
-        limited(plane, source, record, rows, cols, sads) && hold(entries, rows, cols, sads)
+) -> Result<PictureWork, usize> {
+    let plane = part(samples, number(record, 2), number(record, 3));
+    let stride = number(record, 4);
+    let width = number(record, 5);
+    let height = number(record, 6);
+    let source = part(samples, number(record, 7), number(record, 8));
+    let source_stride = number(record, 9);
+    let most = (number(record, 10) % 4294967296) as u32;
+    let version = (number(record, 11) % 256) as u8;
+    match kind {
+        Kind::Limit => search_picture_luma(
+            plane,
+            stride,
+            width,
+            height,
+            source,
+            source_stride,
+            most,
+            version,
+            rows,
+            cols,
+            sads,
+        )
+        .map(|macroblocks| PictureWork {
+            macroblocks,
+            comparisons: 0,
+        })
+        .map_err(picture_number),
+        Kind::Allowance => search_picture_luma_within(
+            plane,
+            stride,
+            width,
+            height,
+            source,
+            source_stride,
+            most,
+            version,
+            rows,
+            cols,
+            sads,
+        )
+        .map_err(allowance_number),
     }
 }
 
-// The same with planes and lists of the lengths that the record has, the lists at most as long as the arrays.
-pub(crate) fn agrees(samples: &[u8], payload: &[u8], record: &[u8; 128]) -> bool {
-    let mut rows = old_components(false);
-    let mut cols = old_components(true);
-    let mut sads = old_words();
-    let r = least(number(record, 12), 1100);
-    let c = least(number(record, 13), 1100);
-    let s = least(number(record, 14), 1100);
-    searches(
-        part(samples, number(record, 2), number(record, 3)),
-        part(samples, number(record, 7), number(record, 8)),
-        record,
-        entries_of(payload, macroblocks(record)),
-        &mut rows[..r],
-        &mut cols[..c],
-        &mut sads[..s],
-    )
+// Whether the call gives the stored number of a refusal, 0 where it is accepted, the stored work, none with a refusal, and the stored
+// lists. The lists are as long as the record says, at most 1100.
+pub(crate) fn agrees(kind: Kind, samples: &[u8], entries: &[u8], record: &[u8; 128]) -> bool {
+    let mut rows: [i16; 1100] = array::from_fn(old_row);
+    let mut cols: [i16; 1100] = array::from_fn(old_col);
+    let mut sads: [u32; 1100] = array::from_fn(old_sad);
+    let rows = &mut rows[..number(record, 12).min(1100)];
+    let cols = &mut cols[..number(record, 13).min(1100)];
+    let sads = &mut sads[..number(record, 14).min(1100)];
+    let none = PictureWork {
+        macroblocks: 0,
+        comparisons: 0,
+    };
+    let (refusal, work) = match searched(kind, samples, record, rows, cols, sads) {
+        Ok(work) => (0, work),
+        Err(refusal) => (refusal, none),
+    };
+    refusal == number(record, 1)
+        && work == work_of(record)
+        && holds(rows, entries, new_row, old_row)
+        && holds(cols, entries, new_col, old_col)
+        && holds(sads, entries, new_sad, old_sad)
 }

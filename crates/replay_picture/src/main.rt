@@ -2,76 +2,95 @@
 // the Rust originals, at versions 1 and 2 of a copy that takes a version, and by a second implementation, and the refusals
 // on the crate `picture_search`, and prints how many cases it compared and how many differ. The layout of `samples` and
 // `cases` is written in oracle/src/picture/mod.rs.
+// What opens the files, reads to the end and prints is not in `stored`: a contract there fixes the outcome, and none can say what a
+// file gives.
 #![tactic(auto)]
 
 mod calls;
-mod lists;
-mod tally;
+mod kind;
 
+use kind::{KINDS, Kind};
 use std::fs::File;
 use std::io;
 use std::io::Read;
+use stored::tally::{Counts, Failure, Fault, Tally};
 
-// Whether to go on after a record.
-fn replay_one(
-    rt: &impl Print,
-    input: &mut impl Read,
-    samples: &[u8],
-    counts: &mut [u64; 8],
-) -> io::Result<bool> {
-    let mut record = [0u8; 128];
-    if stored::read_full(input, &mut record) < 128 {
-        tally::print_failure(rt, counts, "the file ends early")?;
-        return Ok(false);
-    }
-    let kind = lists::number(&record, 0);
-    if kind == 99 {
-        tally::print_all(rt, counts, lists::number(&record, 1))?;
-        return Ok(false);
-    }
-    if kind != 1 && kind != 2 {
-        tally::print_failure(rt, counts, "a record of no known kind")?;
-        return Ok(false);
-    }
-    let macroblocks = lists::macroblocks(&record);
-    let mut payload = lists::payload_buffer();
-    if !lists::read_entries(input, &mut payload, macroblocks) {
-        tally::print_failure(rt, counts, "entries that end early or are too many")?;
-        return Ok(false);
-    }
-    tally::add(
-        counts,
-        kind,
-        macroblocks,
-        calls::agrees(samples, &payload, &record),
-    );
-    Ok(true)
+// The cases, and the macroblocks of all of them.
+#[derive(Drop)]
+struct Counted {
+    tally: Tally<2>,
+    macroblocks: u64,
 }
 
-// A proved loop has to end, so this one has so many turns at most: more than any file has records.
-fn replay(rt: &impl Print, input: &mut impl Read, samples: &[u8]) -> io::Result<()> {
-    let mut counts = [0u64; 8];
-    for _ in 0..u64::MAX {
-        if !replay_one(rt, input, samples, &mut counts)? {
-            break;
-        }
+// The case of a record: its entries, of eight bytes each, at most 1100, are read.
+fn replay_one(
+    input: &mut impl Read,
+    samples: &[u8],
+    record: &[u8; 128],
+    counted: &mut Counted,
+) -> Result<(), Fault> {
+    let kind = Kind::try_from(stored::number(record, 0))?;
+    let macroblocks = calls::work_of(record).macroblocks;
+    let mut payload = [0u8; 8800];
+    let len = macroblocks as usize * 8;
+    if payload.len() < len || stored::read_full(input, &mut payload[..len]).0 < len {
+        return Err(Fault::BadEntries);
     }
+    let agrees = calls::agrees(kind, samples, &payload[..len], record);
+    counted.tally.add(kind as usize, Counts::one(agrees));
+    counted.macroblocks = counted.macroblocks.wrapping_add(u64::from(macroblocks));
     Ok(())
 }
 
-fn unread(rt: &impl Print, name: &str) -> io::Result<()> {
-    println!(rt; "FAILED: cannot be read: {name}")
+// Counts the cases, up to the last record: how many it says stand before it. A proved loop has to end, so this one has so many turns
+// at most: more than any file has records.
+fn replay_all(
+    input: &mut impl Read,
+    samples: &[u8],
+    counted: &mut Counted,
+) -> Result<usize, Fault> {
+    let mut record = [0u8; 128];
+    for _ in 0..u64::MAX {
+        if stored::read_full(input, &mut record).0 < 128 {
+            break;
+        }
+        if stored::number(&record, 0) == 99 {
+            return Ok(stored::number(&record, 1));
+        }
+        replay_one(input, samples, &record, counted)?;
+    }
+    Err(Fault::EndsEarly)
+}
+
+fn replay(rt: &impl Print, input: &mut impl Read, samples: &[u8]) -> io::Result<()> {
+    let mut counted = Counted {
+        tally: Tally::new(),
+        macroblocks: 0,
+    };
+    let ended = replay_all(input, samples, &mut counted);
+    let tally = counted.tally;
+    for (kind, counts) in KINDS.iter().zip(&tally.kinds) {
+        println!(rt; "{kind}: {counts}")?;
+    }
+    println!(rt;
+        "all: {}; {} macroblocks in each of three lists",
+        tally.all, counted.macroblocks
+    )?;
+    match tally.verdict(ended) {
+        Ok(()) => Ok(()),
+        Err(failure) => println!(rt; "{failure}"),
+    }
 }
 
 fn main(rt: HostRuntime) -> io::Result<()> {
-    let Ok(mut bytes) = File::open(&rt, "samples") else {
-        return unread(&rt, "samples");
-    };
     let mut samples = [0u8; 65536];
-    let n = stored::read_full(&mut bytes, &mut samples);
-    drop(bytes);
+    let Ok(mut file) = File::open(&rt, "samples") else {
+        return println!(rt; "{}", Failure::Unread("samples"));
+    };
+    let n = stored::read_full(&mut file, &mut samples).0;
+    drop(file);
     let Ok(mut input) = File::open(&rt, "cases") else {
-        return unread(&rt, "cases");
+        return println!(rt; "{}", Failure::Unread("cases"));
     };
     replay(&rt, &mut input, &samples[..n])
 }

@@ -1,84 +1,96 @@
 // One record: read, replayed, compared.
-use crate::header::{byte, component, fetch_of, number, part, selector, signed, support, vector};
+use crate::kind::Kind;
 use bilinear::bilinear_mb_luma;
-use fetch::{FetchAnswer, fetch_luma_mb_halo, fetch_luma_mb_whole_pixel};
-use filters::{FilterAnswer, FilteredMb};
+use fetch::{FetchRefusal, fetch_luma_mb_halo, fetch_luma_mb_whole_pixel};
+use filters::{BadSelector, FilteredMb};
 use prediction::inverse_transform::{abs_diff, clamp255};
 use prediction::motion_comp::{
     FilterSet, filter_set_for_version, fraction, stored_luma_mv, whole_offset,
 };
-use sixtap::{Interpolated, interp, sixtap_mb_luma};
+use prediction::motion_vector::Mv;
+use sixtap::{interp, sixtap_mb_luma};
 use std::io::Read;
-use std::num::wrapping_add_u64;
+use stored::tally::{Counts, Fault};
+use stored::{number, part, vector};
 
-#[derive(Drop)]
 pub enum Step {
-    Compared {
-        kind: usize,
-        compared: u64,
-        differing: u64,
-    },
+    Compared(Kind, Counts),
     // the fetches since the last such record are over planes of at most so many bytes
     Group(usize),
     // the last record: how many stand before it
     End(usize),
-    Unknown,
-    Cut,
 }
 
-pub(crate) fn next(input: &mut impl Read, planes: &[u8]) -> Step {
+pub(crate) fn next(input: &mut impl Read, planes: &[u8]) -> Result<Step, Fault> {
     let mut header = [0u8; 80];
-    if stored::read_full(input, &mut header) < 80 {
-        return Step::Cut;
-    }
-    let answer = number(&header, 1);
-    let given = number(&header, 2);
-    let kind = number(&header, 0);
-    match kind {
-        0 => Step::Group(given),
-        1 => whole_pixel(input, planes, &header),
-        2 => halo(input, planes, &header),
-        3 => macroblock(input, kind, &header),
-        4 => one(4, is_sample(&header)),
-        5 => one(5, clamp255(signed(given)) as usize == answer),
-        6 => distances(input, byte(given)),
-        7 => one(7, is_doubled(given, answer)),
-        8 => one(8, is_whole(given, answer)),
-        9 => one(9, fraction(component(given)) as usize == answer),
-        10 => one(
-            10,
-            set_number(filter_set_for_version(byte(given))) == answer,
-        ),
-        11 => macroblock(input, kind, &header),
-        99 => Step::End(answer),
-        _ => Step::Unknown,
+    fill(input, &mut header)?;
+    match number(&header, 0) {
+        0 => Ok(Step::Group(number(&header, 2))),
+        99 => Ok(Step::End(number(&header, 1))),
+        kind => {
+            let kind = Kind::try_from(kind)?;
+            let counts = compared(kind, input, planes, &header)?;
+            Ok(Step::Compared(kind, counts))
+        }
     }
 }
 
-// One case of a kind.
-fn one(kind: usize, same: bool) -> Step {
-    let differing = if same { 0 } else { 1 };
-    Step::Compared {
-        kind: kind,
-        compared: 1,
-        differing: differing,
+fn fill(input: &mut impl Read, buf: &mut [u8]) -> Result<(), Fault> {
+    if stored::read_full(input, buf).0 < buf.len() {
+        return Err(Fault::EndsEarly);
     }
+    Ok(())
+}
+
+fn compared(
+    kind: Kind,
+    input: &mut impl Read,
+    planes: &[u8],
+    header: &[u8; 80],
+) -> Result<Counts, Fault> {
+    let answer = number(header, 1);
+    let given = number(header, 2);
+    let byte = (given % 256) as u8;
+    let component = vector(given).row;
+    let agrees = match kind {
+        Kind::WholePixel => whole_pixel(input, planes, header)?,
+        Kind::Halo => halo(input, planes, header)?,
+        Kind::Sixtap => macroblock(input, header, sixtap_mb_luma)?,
+        Kind::Bilinear => macroblock(input, header, bilinear_mb_luma)?,
+        Kind::AbsDiff => return distances(input, byte),
+        Kind::Interp => is_sample(header),
+        Kind::Clamp => clamp255(signed(given)) as usize == answer,
+        Kind::StoredMv => stored_luma_mv(vector(given)) == vector(answer) && answer < 4294967296,
+        Kind::WholeOffset => whole_offset(component) == signed(answer) && answer < 4294967296,
+        Kind::Fraction => fraction(component) as usize == answer,
+        Kind::FilterSet => set_number(filter_set_for_version(byte)) == answer,
+    };
+    Ok(Counts::one(agrees))
+}
+
+// A 32-bit number that was stored with 2^31 added.
+fn signed(biased: usize) -> i32 {
+    ((biased % 4294967296) as i64 - 2147483648) as i32
+}
+
+fn selector(n: usize) -> u32 {
+    (n % 4294967296) as u32
 }
 
 // Document 01's number of a fetch's answer, 0 where it is accepted.
-fn fetch_number(answer: FetchAnswer) -> usize {
+fn fetch_number(answer: Result<(), FetchRefusal>) -> usize {
     match answer {
-        FetchAnswer::Fetched => 0,
-        FetchAnswer::BadSize => 8,
-        FetchAnswer::ShortPlane => 9,
-        FetchAnswer::BadOrigin => 10,
+        Ok(()) => 0,
+        Err(FetchRefusal::BadSize) => 8,
+        Err(FetchRefusal::ShortPlane) => 9,
+        Err(FetchRefusal::BadOrigin) => 10,
     }
 }
 
-fn filter_number(answer: FilterAnswer) -> usize {
+fn filter_number(answer: Result<(), BadSelector>) -> usize {
     match answer {
-        FilterAnswer::Filtered => 0,
-        FilterAnswer::BadSelector => 13,
+        Ok(()) => 0,
+        Err(BadSelector) => 13,
     }
 }
 
@@ -89,101 +101,94 @@ fn set_number(set: FilterSet) -> usize {
     }
 }
 
-fn is_doubled(given: usize, answer: usize) -> bool {
-    let got = stored_luma_mv(vector(given));
-    let expected = vector(answer);
-    got.row == expected.row && got.col == expected.col && answer < 4294967296
+// What a fetch is passed: its plane is a part of the planes.
+#[derive(Drop)]
+struct Fetch<'a> {
+    plane: &'a [u8],
+    stride: usize,
+    width: usize,
+    height: usize,
+    x: usize,
+    y: usize,
+    mv: Mv,
 }
 
-fn is_whole(given: usize, answer: usize) -> bool {
-    whole_offset(component(given)) == signed(answer) && answer < 4294967296
-}
-
-fn whole_pixel(input: &mut impl Read, planes: &[u8], header: &[u8; 80]) -> Step {
-    let mut expected = [0u8; 256];
-    if stored::read_full(input, &mut expected) < 256 {
-        return Step::Cut;
+fn fetch_of<'a>(planes: &'a [u8], header: &[u8; 80]) -> Fetch<'a> {
+    Fetch {
+        plane: part(planes, number(header, 2), number(header, 3)),
+        stride: number(header, 4),
+        width: number(header, 5),
+        height: number(header, 6),
+        x: number(header, 7),
+        y: number(header, 8),
+        mv: eighths(number(header, 9)),
     }
-    let f = fetch_of(header);
-    let plane = part(planes, f.start, f.len);
-    let got = fetch_luma_mb_whole_pixel(plane, f.stride, f.width, f.height, f.x, f.y, f.mv);
-    let block = got.block;
-    let same = block == expected;
-    one(1, same && fetch_number(got.answer) == number(header, 1))
 }
 
-fn halo(input: &mut impl Read, planes: &[u8], header: &[u8; 80]) -> Step {
-    let mut expected = [0u8; 441];
-    if stored::read_full(input, &mut expected) < 441 {
-        return Step::Cut;
-    }
-    let f = fetch_of(header);
-    let plane = part(planes, f.start, f.len);
-    let got = fetch_luma_mb_halo(plane, f.stride, f.width, f.height, f.x, f.y, f.mv);
-    let halo = got.halo;
-    let same = halo == expected;
-    one(2, same && fetch_number(got.answer) == number(header, 1))
-}
-
-// Of kind 3 the six-tap filter, of kind 11 the bilinear one.
-fn filtered(kind: usize, halo: [u8; 441], mx: u32, my: u32) -> FilteredMb {
-    if kind == 3 {
-        sixtap_mb_luma(halo, mx, my)
+// A fetch's vector, in eighths; one that was stored in quarter pixels is doubled first.
+fn eighths(packed: usize) -> Mv {
+    let mv = vector(packed);
+    if packed < 4294967296 {
+        mv
     } else {
-        bilinear_mb_luma(halo, mx, my)
+        stored_luma_mv(mv)
     }
 }
 
-fn macroblock(input: &mut impl Read, kind: usize, header: &[u8; 80]) -> Step {
-    let mut halo = [0u8; 441];
-    if stored::read_full(input, &mut halo) < 441 {
-        return Step::Cut;
-    }
+fn whole_pixel(input: &mut impl Read, planes: &[u8], header: &[u8; 80]) -> Result<bool, Fault> {
     let mut expected = [0u8; 256];
-    if stored::read_full(input, &mut expected) < 256 {
-        return Step::Cut;
-    }
-    let got = filtered(
-        kind,
+    fill(input, &mut expected)?;
+    let f = fetch_of(planes, header);
+    let got = fetch_luma_mb_whole_pixel(f.plane, f.stride, f.width, f.height, f.x, f.y, f.mv);
+    Ok(got.block == expected && fetch_number(got.answer) == number(header, 1))
+}
+
+fn halo(input: &mut impl Read, planes: &[u8], header: &[u8; 80]) -> Result<bool, Fault> {
+    let mut expected = [0u8; 441];
+    fill(input, &mut expected)?;
+    let f = fetch_of(planes, header);
+    let got = fetch_luma_mb_halo(f.plane, f.stride, f.width, f.height, f.x, f.y, f.mv);
+    Ok(got.block == expected && fetch_number(got.answer) == number(header, 1))
+}
+
+// A filter of either set.
+fn macroblock<F: FnOnce([u8; 441], u32, u32) -> FilteredMb>(
+    input: &mut impl Read,
+    header: &[u8; 80],
+    filter: F,
+) -> Result<bool, Fault>
+    requires { F.IsAlwaysCallable filter }
+{
+    let mut halo = [0u8; 441];
+    fill(input, &mut halo)?;
+    let mut expected = [0u8; 256];
+    fill(input, &mut expected)?;
+    let got = filter(
         halo,
         selector(number(header, 2)),
         selector(number(header, 3)),
     );
-    let block = got.block;
-    let same = block == expected;
-    one(kind, same && filter_number(got.answer) == number(header, 1))
+    Ok(got.block == expected && filter_number(got.answer) == number(header, 1))
 }
 
 fn is_sample(header: &[u8; 80]) -> bool {
+    let [a, b, c, d, e, f, ..] = number(header, 3).to_le_bytes();
     let refusal = number(header, 1);
-    let got = interp(selector(number(header, 2)), support(number(header, 3)));
-    match got {
-        Interpolated::Sample(sample) => refusal == 0 && sample as usize == number(header, 4),
-        Interpolated::BadSelector => refusal == 13,
+    match interp(selector(number(header, 2)), [a, b, c, d, e, f]) {
+        Ok(sample) => refusal == 0 && sample as usize == number(header, 4),
+        Err(BadSelector) => refusal == 13,
     }
 }
 
 // The distances of one byte to all 256.
-fn distances(input: &mut impl Read, a: u8) -> Step {
+fn distances(input: &mut impl Read, a: u8) -> Result<Counts, Fault> {
     let mut expected = [0u8; 256];
-    if stored::read_full(input, &mut expected) < 256 {
-        return Step::Cut;
-    }
-    Step::Compared {
-        kind: 6,
+    fill(input, &mut expected)?;
+    let wrong = (0..=255u8)
+        .zip(&expected)
+        .filter(|(b, distance)| abs_diff(a, *b) != **distance);
+    Ok(Counts {
         compared: 256,
-        differing: wrong_distances(a, &expected),
-    }
-}
-
-fn unequal(a: u8, b: u8) -> u64 {
-    if a == b { 0 } else { 1 }
-}
-
-fn wrong_distances(a: u8, expected: &[u8; 256]) -> u64 {
-    let mut wrong: u64 = 0;
-    for b in 0..256usize {
-        wrong = wrapping_add_u64(wrong, unequal(abs_diff(a, b as u8), expected[b]));
-    }
-    wrong
+        differ: wrong.count() as u64,
+    })
 }

@@ -1,20 +1,11 @@
 -- What a line of the refusals that does not apply tells. Assumes nothing.
-use mathlib.Core.Path.{◌≡◌, refl, sym, ap, ◌∙◌}
-use mathlib.Core.Bool.{Bool, true, false, cond}
-use mathlib.Core.List.{List, [], ◌∷◌}
-use Prim.Native.Nat.{ℕ, ◌+◌, ◌-◌, ◌*◌, ◌%◌, ◌≤◌, ◌<◌}
-use native.Mathlib.Omega.{arith}
-use borrow.Author.Tests.{ltb-false, le-ltb}
-use lib.Dec.{ltb}
-use lib.IntN.{ℤ, pos, neg_ℤ, nat_abs}
-use lib.ListN.{length}
-use lib.Signed.{lt_z}
+use Rattle.std.proofs.Common.{◌≡◌, refl, Bool, true, false, cond, List, [], ◌∷◌, ℕ, ◌+◌, ◌-◌, ◌*◌, ◌%◌, ◌≤◌, ◌<◌, arith, ltb-false, le-ltb, ltb, ℤ, pos, neg_ℤ, nat_abs, length}
+use Rattle.std.specs.Int.Signed.{lt_z}
 use Rattle.laws.proofs.Signed.{lt-false, not-lt, self, one-zero}
 use Rattle.laws.specs.Outcome.{Outcome, refused, accepted, Line, first_of}
 use Rattle.laws.proofs.Outcome.{Skipped, or_none}
 use Rattle.prediction.specs.declared.motion_vector.Mv.{Mv}
-use Rattle.prediction.specs.Plane.{luma_plane}
-use Rattle.prediction.specs.Refusals.{bad_side, short_plane}
+use Rattle.prediction.specs.Refusals.{bad_side}
 use Rattle.fetch.proofs.Squares.{sized}
 use Rattle.search.specs.declared.Site.{Site}
 use Rattle.search.specs.Refusals.{outside, out_of_range, not_multiple, off_grid}
@@ -74,19 +65,9 @@ placed bytes s src r =
       row = ltb-false 1023 s.row q.1;
     }
 
--- a cascade of tests: the line that applies, and one that does not
-pub hit : {A : Type 0} (t : Bool) (r x : A) → t ≡ true → r ≡ cond t r x
-hit t r x e = rw e
-
+-- a line that does not apply
 pub pass : {A : Type 0} (t : Bool) (r x y : A) → t ≡ false → r ≡ x → r ≡ cond t y x
 pass t r x y e f = rw e f
-
--- 9 as the code tests it
-pub short-line : (bytes : List ℕ) (stride width height : ℕ) (t : Bool) → t ≡ ltb (length bytes) ((height - 1) * stride + width)
-    → short_plane (luma_plane bytes stride width height) ≡ t
-short-line bytes stride width height t e =
-    let z : 0 + (height - 1) * stride + width ≡ (height - 1) * stride + width = omega arith in
-    ap (ltb (length bytes)) z ∙ sym e
 
 -- every vector is on the grid of 1
 pub grid-one : (v : Mv) → off_grid 1 v ≡ false

@@ -1,12 +1,6 @@
 -- Laws of a picture's search within an allowance: the grants and the account of its comparisons, and which allowances give what a round
 -- limit gives. Assumes nothing.
-use mathlib.Core.Path.{◌≡◌, refl, sym, ap, ◌∙◌}
-use mathlib.Core.List.{[], ◌∷◌}
-use Prim.Native.Nat.{ℕ, suc, ◌+◌, ◌-◌, ◌*◌, ◌/◌, ◌%◌, ◌≤◌, ◌<◌}
-use native.Mathlib.Omega.{arith}
-use borrow.Author.Tests.{ltb-false}
-use lib.IntN.{pos}
-use lib.ListN.{get_or, replicate}
+use Rattle.std.proofs.Common.{◌≡◌, refl, sym, ap, ◌∙◌, [], ◌∷◌, ℕ, suc, ◌+◌, ◌-◌, ◌*◌, ◌/◌, ◌%◌, ◌≤◌, ◌<◌, arith, ltb-false, pos, get_or, replicate}
 use Rattle.laws.proofs.Front.{front_same, after-accepted}
 use Rattle.laws.specs.Outcome.{Outcome, refused, accepted, first_of}
 use Rattle.laws.proofs.Outcome.{Skipped, skipped, answered}

@@ -1,13 +1,6 @@
 -- The SAD of a macroblock up to a ceiling, and searches that are cut short by the best so far. Assumes nothing.
-use mathlib.Core.Path.{◌≡◌, refl, sym, ap, ◌∙◌}
-use mathlib.Core.Bool.{cond}
-use mathlib.Core.List.{List}
-use Prim.Native.Nat.{ℕ, zero, suc, ◌≤◌, ◌<◌, min}
-use native.Mathlib.Omega.{arith}
-use borrow.Author.Tests.{le-ltb}
-use native.Mathlib.Decide.{dec_lt}
-use lib.IntN.{ℤ, pos}
-use lib.ListN.{get_or}
+use Rattle.std.proofs.Common.{◌≡◌, refl, sym, ap, ◌∙◌, cond, List, ℕ, zero, suc, ◌≤◌, ◌<◌, min, arith, le-ltb, ℤ, pos, get_or}
+use Rattle.std.proofs.Math.Decide.{dec_lt}
 use Rattle.laws.specs.Signed.{minus}
 use Rattle.laws.specs.Sums.{sum_below}
 use Rattle.laws.specs.Ceiling.{sum_up_to, rows_measured}

@@ -1,13 +1,6 @@
 -- The laws of the diamond, over any cost: it stays on the grid, how its two counts are bounded, and when no neighbour is better. Assumes nothing.
-use mathlib.Core.Path.{◌≡◌, refl, sym, ap, ◌∙◌}
-use mathlib.Core.Bool.{Bool, true, false, cond, ◌&&◌}
-use Prim.Native.Nat.{ℕ, zero, suc, ◌+◌, ◌-◌, ◌*◌, ◌≤◌, ◌<◌}
-use native.Mathlib.Nat.{le_refl}
-use native.Mathlib.Decide.{dec_lt}
-use native.Mathlib.Omega.{arith}
-use borrow.Author.Tests.{ltb-true, ltb-false}
-use lib.Dec.{ltb}
-use lib.IntN.{ℤ, pos, neg_ℤ, ◌+ℤ◌}
+use Rattle.std.proofs.Common.{◌≡◌, refl, sym, ap, ◌∙◌, Bool, true, false, cond, ◌&&◌, ℕ, zero, suc, ◌+◌, ◌-◌, ◌*◌, ◌≤◌, ◌<◌, le_refl, arith, ltb-true, ltb-false, ltb, ℤ, pos, neg_ℤ, ◌+ℤ◌}
+use Rattle.std.proofs.Math.Decide.{dec_lt}
 use Rattle.laws.specs.Signed.{eq_z}
 use Rattle.laws.proofs.Signed.{eq_z-true, eq_z_self}
 use Rattle.prediction.specs.declared.motion_vector.Mv.{Mv}

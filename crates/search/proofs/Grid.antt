@@ -1,13 +1,7 @@
 -- The grid of whole vectors: clamping and cutting, and where a neighbour is skipped. Assumes nothing.
-use mathlib.Core.Path.{◌≡◌, refl, sym, ap, ◌∙◌}
-use mathlib.Core.Bool.{Bool, true, false, cond, ◌&&◌}
-use Prim.Native.Nat.{ℕ, ◌+◌, ◌*◌, ◌/◌, ◌%◌, ◌≤◌, ◌<◌, min}
-use native.Mathlib.Decide.{dec_lt}
-use native.Mathlib.Omega.{arith}
-use lib.IntN.{ℤ, pos, negsuc, neg_ℤ, nat_abs, ◌+ℤ◌, ◌*ℤ◌}
-use lib.Signed.{lt_z, quot_z}
-use mir.Syntax.{w16}
-use mir.Val.{SFits}
+use Rattle.std.proofs.Common.{◌≡◌, refl, sym, ap, ◌∙◌, Bool, true, false, cond, ◌&&◌, ℕ, ◌+◌, ◌*◌, ◌/◌, ◌%◌, ◌≤◌, ◌<◌, min, arith, ℤ, pos, negsuc, neg_ℤ, nat_abs, ◌+ℤ◌, ◌*ℤ◌, w16, SFits}
+use Rattle.std.specs.Int.Signed.{lt_z, quot_z}
+use Rattle.std.proofs.Math.Decide.{dec_lt}
 use Rattle.laws.specs.Signed.{above, below, eq_z}
 use Rattle.laws.proofs.Signed.{fits, self, same, sum, times, quot, floor, diff, lt-true, lt-false, not-lt, one-zero, eq-eq_z, ne-eq_z, parts_same}
 use Rattle.prediction.specs.declared.motion_vector.Mv.{Mv}

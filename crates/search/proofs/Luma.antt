@@ -1,10 +1,5 @@
 -- The laws of the diamond at the SAD of a macroblock. Assumes nothing.
-use mathlib.Core.Path.{◌≡◌}
-use mathlib.Core.Bool.{false}
-use mathlib.Core.List.{List}
-use Prim.Native.Nat.{ℕ, ◌≤◌, ◌<◌}
-use native.Mathlib.Omega.{arith}
-use lib.ListN.{get_or}
+use Rattle.std.proofs.Common.{◌≡◌, false, List, ℕ, ◌≤◌, ◌<◌, arith, get_or}
 use Rattle.prediction.specs.declared.motion_vector.Mv.{Mv}
 use Rattle.prediction.specs.Plane.{Plane}
 use Rattle.search.specs.Sad.{cost_of}

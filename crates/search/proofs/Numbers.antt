@@ -1,7 +1,5 @@
 -- Which numbers a call can be refused with. Assumes nothing.
-use mathlib.Core.Path.{◌≡◌, refl}
-use mathlib.Core.List.{List}
-use Prim.Native.Nat.{ℕ}
+use Rattle.std.proofs.Common.{◌≡◌, refl, List, ℕ}
 use Rattle.laws.specs.Outcome.{refused, first_of}
 use Rattle.laws.proofs.Outcome.{never_refused}
 use Rattle.prediction.specs.declared.motion_vector.Mv.{Mv}

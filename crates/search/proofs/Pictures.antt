@@ -1,14 +1,6 @@
 -- Laws of the whole-picture search: it gives what the single calls give, none of which is refused, and a picture that is its own source
 -- stays where it is. Assumes nothing.
-use mathlib.Core.Path.{◌≡◌, refl, sym, ap, ◌∙◌}
-use mathlib.Core.Bool.{Bool, true, false, cond}
-use mathlib.Core.Logic.{⊎_elim}
-use mathlib.Core.List.{List, [], ◌∷◌}
-use Prim.Native.Nat.{ℕ, zero, suc, ◌+◌, ◌*◌, ◌/◌, ◌%◌, ◌≤◌, ◌<◌}
-use native.Mathlib.Omega.{arith}
-use borrow.Author.Tests.{ltb-false}
-use lib.IntN.{ℤ, pos}
-use lib.ListN.{length, get_or, replicate}
+use Rattle.std.proofs.Common.{◌≡◌, refl, sym, ap, ◌∙◌, Bool, true, false, cond, ⊎_elim, List, [], ◌∷◌, ℕ, zero, suc, ◌+◌, ◌*◌, ◌/◌, ◌%◌, ◌≤◌, ◌<◌, arith, ltb-false, ℤ, pos, length, get_or, replicate}
 use Rattle.laws.specs.Front.{front}
 use Rattle.laws.proofs.Front.{front_at, front-past, front_length, after-accepted, after-refused}
 use Rattle.laws.proofs.Sums.{sum-most}
@@ -195,10 +187,6 @@ module _ (plane source : Plane) (limit column row : ℕ) (bytes : (k : ℕ) → 
   entry-most set =
       rw (refine-sad (cost_in set plane column row (source_block source column row)) 1 _)
       (cost_most_in set plane column row (source_block source column row) _ (block-byte source column row bytes))
-
-  pub whole-sads : (src : List ℕ) (w : DiamondResult) → src ≡ source_block source column row → w ≡ diamond (cost_of plane column row src) zero_mv limit
-      → w.sads ≤ 261125
-  whole-sads src w a b = rw (b, a) (luma_sads plane column row (source_block source column row) (block-byte source column row bytes) zero_mv limit)
 
   pub sads-few : (set : FilterRows) → (searched_at set plane source limit column row).sads ≤ 261143
   unfolding searched_mb

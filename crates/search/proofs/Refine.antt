@@ -1,13 +1,6 @@
 -- The laws of the refinements, over any cost: what is found, and that clamping and skipping never occur. Assumes nothing.
-use mathlib.Core.Path.{◌≡◌, refl, sym, ap, ◌∙◌}
-use mathlib.Core.Bool.{false}
-use mathlib.Core.Logic.{⊎_elim}
-use Prim.Native.Nat.{ℕ, ◌+◌, ◌*◌, ◌/◌, ◌%◌, ◌≤◌, ◌<◌}
-use native.Mathlib.Nat.{mul-le-mul_right, mul-div_cancel}
-use native.Mathlib.Decide.{dec_lt}
-use native.Mathlib.Omega.{arith}
-use borrow.Author.Tests.{lt-ltb, le-ltb}
-use lib.IntN.{ℤ, pos, nat_abs, ◌+ℤ◌}
+use Rattle.std.proofs.Common.{◌≡◌, refl, sym, ap, ◌∙◌, false, ⊎_elim, ℕ, ◌+◌, ◌*◌, ◌/◌, ◌%◌, ◌≤◌, ◌<◌, mul-le-mul_right, mul-div_cancel, arith, lt-ltb, le-ltb, ℤ, pos, nat_abs, ◌+ℤ◌}
+use Rattle.std.proofs.Math.Decide.{dec_lt}
 use Rattle.laws.specs.Signed.{above, below}
 use Rattle.laws.proofs.Signed.{same, sum, diff, self, one-zero, parts_same}
 use Rattle.laws.specs.Best.{best_of}

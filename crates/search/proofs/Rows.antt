@@ -1,10 +1,5 @@
 -- The SAD of a macroblock by its rows, wherever they stand. Assumes nothing.
-use mathlib.Core.Path.{◌≡◌, ap, ◌∙◌}
-use mathlib.Core.List.{List}
-use Prim.Native.Nat.{ℕ, ◌+◌, ◌*◌, ◌<◌}
-use native.Mathlib.Nat.{add-mul}
-use native.Mathlib.Omega.{arith}
-use lib.ListN.{get_or}
+use Rattle.std.proofs.Common.{◌≡◌, ap, ◌∙◌, List, ℕ, ◌+◌, ◌*◌, ◌<◌, add-mul, arith, get_or}
 use borrow.Rule.Slice.PartMut.{mid_of}
 use Rattle.laws.specs.Sums.{sum_below}
 use Rattle.laws.proofs.Sums.{sum_same, sum_more, sum_plus, sum_rows}

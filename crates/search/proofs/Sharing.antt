@@ -1,10 +1,5 @@
 -- Laws of the sharing of an allowance, over any search that keeps within its grant. Assumes nothing.
-use mathlib.Core.Path.{◌≡◌, refl, sym, ap, ◌∙◌}
-use mathlib.Core.Bool.{cond}
-use Prim.Native.Nat.{ℕ, zero, suc, ◌+◌, ◌-◌, ◌*◌, ◌/◌, ◌≤◌, ◌<◌}
-use native.Mathlib.Nat.{le_trans, le_of_eq, div-one, div-le_self, div-mul-le_self, le-div_iff_mul-le, mul-div_cancel}
-use native.Mathlib.Omega.{arith}
-use lib.Dec.{ltb}
+use Rattle.std.proofs.Common.{◌≡◌, refl, sym, ap, ◌∙◌, cond, ℕ, zero, suc, ◌+◌, ◌-◌, ◌*◌, ◌/◌, ◌≤◌, ◌<◌, le_trans, le_of_eq, div-one, div-le_self, div-mul-le_self, le-div_iff_mul-le, mul-div_cancel, arith, ltb}
 use Rattle.laws.specs.Sums.{sum_below}
 use Rattle.laws.proofs.Sums.{sum-least}
 use Rattle.search.specs.Allowance.{rounds_for, remains, grant_at, made_at, spent}

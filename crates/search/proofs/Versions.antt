@@ -1,11 +1,6 @@
 -- What a version changes, and what it leaves as it is. Assumes nothing.
-use mathlib.Core.Path.{◌≡◌, refl, sym, ap, ◌∙◌}
-use mathlib.Core.Bool.{false}
-use mathlib.Core.List.{List, [], ◌∷◌, ◌++◌}
-use Prim.Native.Nat.{ℕ, ◌*◌, ◌≤◌, ◌<◌}
-use borrow.Author.Tests.{lt-ltb, le-ltb}
-use lib.IntN.{pos}
-use lib.ListN.{get_or}
+use Rattle.std.specs.Prelude.{Err}
+use Rattle.std.proofs.Common.{◌≡◌, refl, sym, ap, ◌∙◌, false, List, [], ◌∷◌, ◌++◌, ℕ, ◌*◌, ◌≤◌, ◌<◌, lt-ltb, le-ltb, pos, get_or}
 use Rattle.laws.specs.Outcome.{Outcome, refused, Line, first_of}
 use Rattle.laws.proofs.Outcome.{has, never_refused}
 use Rattle.prediction.specs.declared.motion_vector.Mv.{Mv}
@@ -22,8 +17,7 @@ use Rattle.bilinear.proofs.Mean.{bilinear-whole}
 use Rattle.search.specs.Sad.{sad16, cost_in, cost_of}
 use Rattle.search.specs.Search.{diamond}
 use Rattle.search.specs.declared.SearchResult.{SearchResult}
-use Rattle.search.specs.declared.SadAnswer.TheVariants as sad
-use Rattle.search.specs.declared.SearchAnswer.TheVariants as search
+use Rattle.search.specs.declared.SearchRefusal.TheVariants as search
 use Rattle.search.specs.Refusals.{vector_lines, grid_lines, any_sad_lines, refine_lines, sad_outcome, search_outcome}
 use Rattle.search.specs.Internal.{Copied}
 use Rattle.search.proofs.Grid.{whole_copied}
@@ -94,5 +88,5 @@ pub before_10 : asked (luma_plane (0 ∷ []) 1 1 1) ≡ (refused 23 [], refused 
 before_10 = refl
 
 -- and is the number of its case
-pub bad_version_is_23 : (sad_outcome sad.BadVersion ≡ refused 23 []) × (search_outcome search.BadVersion ≡ refused 23 [])
+pub bad_version_is_23 : (sad_outcome (Err search.BadVersion) ≡ refused 23 []) × (search_outcome (Err search.BadVersion) ≡ refused 23 [])
 bad_version_is_23 = (refl, refl)

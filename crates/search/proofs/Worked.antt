@@ -1,9 +1,5 @@
 -- Worked searches, by which the definitions can be told from others that resemble them. Assumes nothing.
-use mathlib.Core.Path.{◌≡◌, refl}
-use mathlib.Core.Bool.{cond}
-use mathlib.Core.List.{[], ◌∷◌}
-use Prim.Native.Nat.{ℕ}
-use lib.IntN.{ℤ, pos, neg_ℤ}
+use Rattle.std.proofs.Common.{◌≡◌, refl, cond, [], ◌∷◌, ℕ, ℤ, pos, neg_ℤ}
 use Rattle.laws.specs.Best.{better_of, best_of}
 use Rattle.laws.specs.Outcome.{refused, first_of}
 use Rattle.prediction.specs.declared.motion_vector.Mv.{Mv}

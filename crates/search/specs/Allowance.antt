@@ -1,15 +1,15 @@
 -- The comparison allowance of document 02's request 14: how it is shared out among the macroblocks, over any search of them; then by the
 -- search of a picture, with the refusals and what the call promises. A comparison is one SAD computed. Assumes nothing.
-use Rattle.std.specs.Prelude.{Bool, List, [], ◌∷◌, ◌++◌, ℕ, zero, suc, ◌+◌, ◌-◌, ◌*◌, ◌/◌, ltb}
+use Rattle.std.specs.Prelude.{Bool, List, [], ◌∷◌, ◌++◌, ℕ, zero, suc, ◌+◌, ◌-◌, ◌*◌, ◌/◌, ltb, Result}
 use Rattle.laws.specs.Sums.{sum_below}
-use Rattle.laws.specs.Outcome.{Outcome, refused, accepted, Line, line, first_of}
+use Rattle.laws.specs.Outcome.{Outcome, refused, Line, line, first_of, result_outcome}
 use Rattle.prediction.specs.Plane.{Plane}
 use Rattle.prediction.specs.Filter.{FilterRows, rows_for}
 use Rattle.search.specs.declared.picture.SearchedMb.{SearchedMb}
 use Rattle.search.specs.declared.allowance.PictureWork.{PictureWork}
-use Rattle.search.specs.declared.allowance.AllowanceAnswer.{AllowanceAnswer}
-use Rattle.search.specs.declared.allowance.AllowanceAnswer.TheVariants.{Searched, BadSize, ShortPlane, ShortSource, ShortList, LowAllowance, BadVersion}
-use Rattle.search.specs.Picture.{mb_count, picture_at, Lists, picture_lines, PictureIs}
+use Rattle.search.specs.declared.allowance.AllowanceRefusal.{AllowanceRefusal}
+use Rattle.search.specs.declared.allowance.AllowanceRefusal.TheVariants.{Picture, LowAllowance}
+use Rattle.search.specs.Picture.{mb_count, picture_at, Lists, picture_lines, picture_refusal, PictureIs}
 
 -- what every macroblock needs: the diamond's start and nine in each refinement, its centre included
 abbrev pub fewest : ℕ
@@ -69,15 +69,14 @@ abbrev pub allowance_expected : ℕ → Plane → Plane → ℕ → Lists → Ou
 allowance_expected version plane source allowance l =
     first_of (allowance_lines version plane source allowance l) (work_of (rows_for version) plane source allowance)
 
--- the number of each case of an answer
-abbrev pub allowance_outcome : AllowanceAnswer → Outcome PictureWork
-allowance_outcome (Searched w) = accepted w
-allowance_outcome BadSize = refused 8 []
-allowance_outcome ShortPlane = refused 9 []
-allowance_outcome ShortSource = refused 14 []
-allowance_outcome ShortList = refused 15 []
-allowance_outcome BadVersion = refused 23 []
-allowance_outcome LowAllowance = refused 30 []
+-- the number of each refusal
+abbrev pub allowance_refusal : {A : Type 0} → AllowanceRefusal → Outcome A
+allowance_refusal (Picture p) = picture_refusal p
+allowance_refusal LowAllowance = refused 30 []
+
+-- the outcome of a result
+abbrev pub allowance_outcome : Result PictureWork AllowanceRefusal → Outcome PictureWork
+allowance_outcome = result_outcome allowance_refusal
 
 -- what `search_picture_luma_within` promises, by the version, the allowance and the two planes: fields `answer`, `rows`, `cols`, `sads`
 abbrev pub AllowanceIs : ℕ → ℕ → Plane → Plane → Outcome PictureWork → Lists → Lists → Type 0

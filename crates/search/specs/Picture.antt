@@ -1,8 +1,8 @@
 -- The whole-picture search of document 02's request 1: the macroblocks, the search of each, the refusals, and what the call promises.
 -- Assumes nothing.
-use Rattle.std.specs.Prelude.{◌≡◌, Bool, ◌||◌, List, [], ◌∷◌, ◌++◌, ℕ, ◌+◌, ◌*◌, ◌/◌, ◌%◌, ltb, ℤ, pos, length}
+use Rattle.std.specs.Prelude.{◌≡◌, Bool, ◌||◌, List, [], ◌∷◌, ◌++◌, ℕ, ◌+◌, ◌*◌, ◌/◌, ◌%◌, ltb, ℤ, pos, length, Result}
 use Rattle.laws.specs.Front.{front}
-use Rattle.laws.specs.Outcome.{Outcome, refused, accepted, Line, line, first_of, after}
+use Rattle.laws.specs.Outcome.{Outcome, refused, Line, line, first_of, after, result_outcome}
 use Rattle.prediction.specs.declared.motion_vector.Mv.{Mv}
 use Rattle.prediction.specs.Plane.{Plane, sample_at, moved_by}
 use Rattle.prediction.specs.Filter.{FilterRows, rows_for}
@@ -11,8 +11,8 @@ use Rattle.prediction.specs.Refusals.{bad_size, short_plane, version_lines}
 use Rattle.search.specs.declared.DiamondResult.{DiamondResult}
 use Rattle.search.specs.declared.SearchResult.{SearchResult}
 use Rattle.search.specs.declared.picture.SearchedMb.{SearchedMb}
-use Rattle.search.specs.declared.picture.PictureAnswer.{PictureAnswer}
-use Rattle.search.specs.declared.picture.PictureAnswer.TheVariants.{Searched, BadSize, ShortPlane, ShortSource, ShortList, BadVersion}
+use Rattle.search.specs.declared.picture.PictureRefusal.{PictureRefusal}
+use Rattle.search.specs.declared.picture.PictureRefusal.TheVariants.{BadSize, ShortPlane, ShortSource, ShortList, BadVersion}
 use Rattle.search.specs.Sad.{cost_in, cost_of}
 use Rattle.search.specs.Search.{diamond, refine}
 
@@ -85,14 +85,17 @@ picture_lines version plane source l =
 abbrev pub picture_expected : ℕ → Plane → Plane → Lists → Outcome ℕ
 picture_expected version plane source l = first_of (picture_lines version plane source l) (mb_count plane)
 
--- the number of each case of an answer
-abbrev pub picture_outcome : PictureAnswer → Outcome ℕ
-picture_outcome (Searched n) = accepted n
-picture_outcome BadSize = refused 8 []
-picture_outcome ShortPlane = refused 9 []
-picture_outcome ShortSource = refused 14 []
-picture_outcome ShortList = refused 15 []
-picture_outcome BadVersion = refused 23 []
+-- the number of each refusal
+abbrev pub picture_refusal : {A : Type 0} → PictureRefusal → Outcome A
+picture_refusal BadSize = refused 8 []
+picture_refusal ShortPlane = refused 9 []
+picture_refusal ShortSource = refused 14 []
+picture_refusal ShortList = refused 15 []
+picture_refusal BadVersion = refused 23 []
+
+-- the outcome of a result
+abbrev pub picture_outcome : Result ℕ PictureRefusal → Outcome ℕ
+picture_outcome = result_outcome picture_refusal
 
 -- what a search of n macroblocks promises, by the outcome expected and the search of each: the outcome, and the lists at exit, where entry
 -- i is macroblock i's and those from n on are unchanged; on a refusal all are

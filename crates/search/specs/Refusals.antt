@@ -1,20 +1,18 @@
 -- Document 01's numbers of refusal 8 to 12 for the search and SAD calls, document 02's 23 before them where a call takes a version, and the
--- number of each case of an answer. Assumes nothing.
-use Rattle.std.specs.Prelude.{Bool, ◌||◌, List, [], ◌∷◌, ◌++◌, ℕ, ◌%◌, ltb, ℤ, pos, nat_abs}
+-- number of each refusal. Assumes nothing.
+use Rattle.std.specs.Prelude.{Bool, ◌||◌, List, [], ◌∷◌, ◌++◌, ℕ, ◌%◌, ltb, ℤ, pos, nat_abs, Result}
 use Rattle.std.specs.Int.Signed.{lt_z}
 use Rattle.laws.specs.Signed.{minus}
-use Rattle.laws.specs.Outcome.{Outcome, refused, accepted, Line, line}
+use Rattle.laws.specs.Outcome.{Outcome, refused, Line, line, result_outcome}
 use Rattle.prediction.specs.declared.motion_vector.Mv.{Mv}
 use Rattle.prediction.specs.Plane.{Plane}
 use Rattle.prediction.specs.Refusals.{bad_size, short_plane, version_lines}
 use Rattle.search.specs.declared.SearchResult.{SearchResult}
 use Rattle.search.specs.declared.DiamondResult.{DiamondResult}
-use Rattle.search.specs.declared.SadAnswer.{SadAnswer}
-use Rattle.search.specs.declared.SadAnswer.TheVariants as sad
-use Rattle.search.specs.declared.SearchAnswer.{SearchAnswer}
-use Rattle.search.specs.declared.SearchAnswer.TheVariants as search
-use Rattle.search.specs.declared.DiamondAnswer.{DiamondAnswer}
-use Rattle.search.specs.declared.DiamondAnswer.TheVariants as diamond
+use Rattle.search.specs.declared.PlaceRefusal.{PlaceRefusal}
+use Rattle.search.specs.declared.PlaceRefusal.TheVariants as place
+use Rattle.search.specs.declared.SearchRefusal.{SearchRefusal}
+use Rattle.search.specs.declared.SearchRefusal.TheVariants as search
 
 -- 10. A macroblock column or row exceeds 1023
 abbrev pub bad_macroblock : ℕ → ℕ → Bool
@@ -54,27 +52,24 @@ any_sad_lines version p column row v = version_lines version ++ vector_lines p c
 abbrev pub refine_lines : ℕ → ℕ → Plane → ℕ → ℕ → Mv → List Line
 refine_lines version n p column row v = version_lines version ++ grid_lines n p column row v
 
--- the number and the values of each case of an answer
-abbrev pub sad_outcome : SadAnswer → Outcome ℕ
-sad_outcome (sad.Sad n) = accepted n
-sad_outcome sad.BadSize = refused 8 []
-sad_outcome sad.ShortPlane = refused 9 []
-sad_outcome sad.BadMacroblock = refused 10 []
-sad_outcome sad.OutOfRange = refused 11 []
-sad_outcome sad.OffGrid = refused 12 []
-sad_outcome sad.BadVersion = refused 23 []
+-- the number of each refusal; none has values
+abbrev pub place_refusal : {A : Type 0} → PlaceRefusal → Outcome A
+place_refusal place.BadSize = refused 8 []
+place_refusal place.ShortPlane = refused 9 []
+place_refusal place.BadMacroblock = refused 10 []
 
-abbrev pub search_outcome : SearchAnswer → Outcome SearchResult
-search_outcome (search.Found r) = accepted r
-search_outcome search.BadSize = refused 8 []
-search_outcome search.ShortPlane = refused 9 []
-search_outcome search.BadMacroblock = refused 10 []
-search_outcome search.OutOfRange = refused 11 []
-search_outcome search.OffGrid = refused 12 []
-search_outcome search.BadVersion = refused 23 []
+abbrev pub search_refusal : {A : Type 0} → SearchRefusal → Outcome A
+search_refusal (search.Place p) = place_refusal p
+search_refusal search.OutOfRange = refused 11 []
+search_refusal search.OffGrid = refused 12 []
+search_refusal search.BadVersion = refused 23 []
 
-abbrev pub diamond_outcome : DiamondAnswer → Outcome DiamondResult
-diamond_outcome (diamond.Found r) = accepted r
-diamond_outcome diamond.BadSize = refused 8 []
-diamond_outcome diamond.ShortPlane = refused 9 []
-diamond_outcome diamond.BadMacroblock = refused 10 []
+-- the outcome of each result
+abbrev pub sad_outcome : Result ℕ SearchRefusal → Outcome ℕ
+sad_outcome = result_outcome search_refusal
+
+abbrev pub search_outcome : Result SearchResult SearchRefusal → Outcome SearchResult
+search_outcome = result_outcome search_refusal
+
+abbrev pub diamond_outcome : Result DiamondResult PlaceRefusal → Outcome DiamondResult
+diamond_outcome = result_outcome place_refusal

@@ -5,10 +5,13 @@
 pub mod allowance;
 pub mod picture;
 
+ghost use Rattle.std.specs.Prelude.{◌≡◌};
+ghost use Rattle.search.specs.declared.SearchRefusal.TheVariants.{Place};
+
 use prediction::motion_vector::Mv;
 
 // The numbers of a reference plane and of one macroblock.
-#[derive(Clone, Copy)]
+#[derive(Clone, Copy, Debug, PartialEq, Eq)]
 pub struct Site {
     pub stride: usize,
     pub width: usize,
@@ -18,14 +21,14 @@ pub struct Site {
 }
 
 // A vector and its SAD.
-#[derive(Clone, Copy)]
+#[derive(Clone, Copy, Debug, PartialEq, Eq)]
 pub struct SearchResult {
     pub mv: Mv,
     pub sad: u32,
 }
 
 // A vector, its SAD, the SADs computed (the first included) and the rounds made (the last without a move included).
-#[derive(Clone, Copy)]
+#[derive(Clone, Copy, Debug, PartialEq, Eq)]
 pub struct DiamondResult {
     pub mv: Mv,
     pub sad: u32,
@@ -33,32 +36,27 @@ pub struct DiamondResult {
     pub rounds: u32,
 }
 
-#[derive(Clone, Copy)]
-pub enum SadAnswer {
-    Sad(u32),
+// Why a macroblock of a plane is refused.
+#[derive(Clone, Copy, Debug, PartialEq, Eq)]
+pub enum PlaceRefusal {
     BadSize,
     ShortPlane,
     BadMacroblock,
+}
+
+// Why a SAD or a refinement at a vector is refused.
+#[derive(Clone, Copy, Debug, PartialEq, Eq)]
+pub enum SearchRefusal {
+    Place(PlaceRefusal),
     OutOfRange,
     OffGrid,
     BadVersion,
 }
 
-#[derive(Clone, Copy)]
-pub enum SearchAnswer {
-    Found(SearchResult),
-    BadSize,
-    ShortPlane,
-    BadMacroblock,
-    OutOfRange,
-    OffGrid,
-    BadVersion,
-}
+impl From<PlaceRefusal> for SearchRefusal {
+    ghost from_gives = { λ p e. e ≡ Place p };
 
-#[derive(Clone, Copy)]
-pub enum DiamondAnswer {
-    Found(DiamondResult),
-    BadSize,
-    ShortPlane,
-    BadMacroblock,
+    fn from(p: PlaceRefusal) -> SearchRefusal {
+        SearchRefusal::Place(p)
+    }
 }

@@ -2,17 +2,16 @@
 use prediction::motion_vector::Mv;
 
 // A macroblock's last vector, its SAD, and the SADs computed on the way.
-#[derive(Clone, Copy)]
+#[derive(Clone, Copy, Debug, PartialEq, Eq)]
 pub struct SearchedMb {
     pub mv: Mv,
     pub sad: u32,
     pub sads: u32,
 }
 
-// The macroblocks searched, or why the picture is refused.
-#[derive(Clone, Copy)]
-pub enum PictureAnswer {
-    Searched(u32),
+// Why the search of a picture is refused.
+#[derive(Clone, Copy, Debug, PartialEq, Eq)]
+pub enum PictureRefusal {
     BadSize,
     ShortPlane,
     ShortSource,

@@ -1,15 +1,11 @@
 -- The sample by the sizes of a row's taps is the filtered sample; row 0 is the identity, and row 4 keeps equal samples. Assumes nothing.
-use mathlib.Core.List.{List}
-use mathlib.Core.Path.{◌≡◌, refl, sym, ◌∙◌}
-use Prim.Native.Nat.{ℕ, suc, ◌+◌, ◌-◌, ◌*◌, ◌/◌, ◌<◌, min}
-use native.Mathlib.Omega.{arith}
-use lib.ListN.{get_or}
-use lib.IntN.{ℤ, pos, neg_ℤ, ◌+ℤ◌, ◌*ℤ◌}
+use Rattle.std.proofs.Common.{List, ◌≡◌, refl, sym, ◌∙◌, ℕ, suc, ◌+◌, ◌-◌, ◌*◌, ◌/◌, ◌<◌, min, arith, get_or, ℤ, pos, neg_ℤ, ◌+ℤ◌, ◌*ℤ◌}
 use Rattle.laws.proofs.Signed.{times, neg, floor, Less, less-pos, less-sum, above-less}
 use Rattle.prediction.specs.Filter.{products, filtered, sixtap_rows, sixtap}
-use Rattle.sixtap.specs.declared.Taps.{Taps}
+use Rattle.sixtap.specs.declared.taps.Taps.{Taps}
 use Rattle.filters.specs.Sets.{Identity}
 use Rattle.filters.specs.Internal.{filtered_list}
+use Rattle.filters.proofs.Passes.{kept_is}
 use Rattle.sixtap.specs.Internal.{Row, sample_of}
 
 -- a product of a tap that is added, and of one that is taken away
@@ -67,7 +63,7 @@ sample_law s t w r = by_sizes s t r (λ k. get_or w k 0)
 
 -- row 0 is the identity: it leaves the third sample as it is
 whole : Taps
-whole = record { a = 0; b = 0; c = 128; d = 0; e = 0; f = 0 }
+whole = record { a = 0; b = 0; c = 128; d = 0; e = 0; f = 0; more = omega arith; less = omega arith }
 
 row_zero : (sample : ℕ → ℕ) → min (sample 2) 255 ≡ filtered (sixtap 0) sample
 unfolding sixtap sixtap_rows whole
@@ -79,9 +75,15 @@ row_zero sample =
 pub sixtap-whole : Identity sixtap
 sixtap-whole = record { kept = row_zero }
 
+-- so a pass with selector 0 copies the third of six samples
+pub copied : (w : List ℕ) (y : ℕ) → y < 256 → y ≡ get_or w 2 0 → y ≡ filtered_list sixtap 0 w
+copied w y h e =
+    let m : y ≡ min (get_or w 2 0) 255 = omega arith in
+    m ∙ kept_is sixtap sixtap-whole w
+
 -- row 4 keeps equal samples: its taps add up to 128
 halfway : Taps
-halfway = record { a = 3; b = 16; c = 77; d = 77; e = 16; f = 3 }
+halfway = record { a = 3; b = 16; c = 77; d = 77; e = 16; f = 3; more = omega arith; less = omega arith }
 
 pub halfway-flat : (v : ℕ) → v < 256 → filtered (sixtap 4) (λ k. v) ≡ v
 unfolding sixtap sixtap_rows halfway

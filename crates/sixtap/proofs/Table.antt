@@ -1,14 +1,5 @@
 -- Signs and sizes of the taps: each by one test over the whole table. Assumes nothing.
-use mathlib.Core.Bool.{Bool}
-use mathlib.Core.List.{List, []}
-use mathlib.Core.Path.{◌≡◌}
-use Prim.Native.Nat.{ℕ, ◌+◌, ◌≤◌}
-use native.Mathlib.Omega.{arith}
-use lib.Dec.{leb, leb→le}
-use lib.ListN.{get_or}
-use lib.IntN.{ℤ, pos, nat_abs, neg_ℤ}
-use mir.Syntax.{w32}
-use mir.Val.{SFits}
+use Rattle.std.proofs.Common.{Bool, List, [], ◌≡◌, ℕ, ◌+◌, ◌≤◌, arith, leb, leb→le, get_or, ℤ, pos, nat_abs, neg_ℤ, w32, SFits}
 use Rattle.laws.proofs.Tables.{every, at}
 use Rattle.laws.specs.Signed.{above, below}
 use Rattle.laws.proofs.Signed.{self, neg, same}

@@ -1,8 +1,8 @@
 -- What the private functions promise each other. No public contract uses these definitions. Assumes nothing.
-use Rattle.std.specs.Prelude.{List, ◌≡◌, ℕ, ◌+◌, ◌-◌, ◌*◌, ◌/◌, ◌%◌, ◌≤◌, min, get_or, pos, neg_ℤ}
+use Rattle.std.specs.Prelude.{List, ◌≡◌, ℕ, ◌+◌, ◌-◌, ◌*◌, ◌/◌, ◌%◌, ◌<◌, min, get_or, pos, neg_ℤ}
 use Rattle.prediction.specs.Filter.{sixtap}
 use Rattle.filters.specs.Internal.{window}
-use Rattle.sixtap.specs.declared.Taps.{Taps}
+use Rattle.sixtap.specs.declared.taps.Taps.{Taps}
 
 -- a row of taps by its sizes: the second and the fifth tap are not positive, the others not negative
 pub record Row (s : ℕ) (t : Taps) : Type 0 where
@@ -12,11 +12,6 @@ pub record Row (s : ℕ) (t : Taps) : Type 0 where
   pub d : sixtap s 3 ≡ pos t.d
   pub e : sixtap s 4 ≡ neg_ℤ (pos t.e)
   pub f : sixtap s 5 ≡ pos t.f
-
--- every sum of products of such taps with samples fits 16 bits
-pub record Small (t : Taps) : Type 0 where
-  pub more : t.a + t.c + t.d + t.f ≤ 160
-  pub less : t.b + t.e ≤ 32
 
 -- the products that are added, and those that are taken away
 abbrev pub added : Taps → List ℕ → ℕ
@@ -29,9 +24,13 @@ taken t w = t.b * get_or w 1 0 + t.e * get_or w 4 0
 unfoldable pub sample_of : Taps → List ℕ → ℕ
 sample_of t w = min ((added t w + 64 - taken t w) / 128) 255
 
--- sample i of either pass, by the sizes of a row's taps
-abbrev pub across : Taps → List ℕ → ℕ → ℕ
-across t halo i = sample_of t (window halo (i / 16 * 21 + i % 16) 1)
+-- a closure's results, of which `post` speaks, are those of g
+abbrev pub Gives : (List ℕ → ℕ → Type 0) → (List ℕ → ℕ) → Type 0
+Gives post g = (support : List ℕ) (y : ℕ) → y < 256 → post support y → y ≡ g support
 
-abbrev pub down : Taps → List ℕ → ℕ → ℕ
-down t rows i = sample_of t (window rows i 16)
+-- sample i of either pass, as g makes it of six
+abbrev pub across : (List ℕ → ℕ) → List ℕ → ℕ → ℕ
+across g halo i = g (window halo (i / 16 * 21 + i % 16) 1)
+
+abbrev pub down : (List ℕ → ℕ) → List ℕ → ℕ → ℕ
+down g rows i = g (window rows i 16)

@@ -1,10 +1,8 @@
--- The number of each case of a sample's answer. Assumes nothing.
-use Rattle.std.specs.Prelude.{[], ℕ}
-use Rattle.laws.specs.Outcome.{Outcome, refused, accepted}
-use Rattle.sixtap.specs.declared.Interpolated.{Interpolated}
-use Rattle.sixtap.specs.declared.Interpolated.TheVariants as interpolated
+-- The outcome of a sample's answer. Assumes nothing.
+use Rattle.std.specs.Prelude.{ℕ, Result}
+use Rattle.laws.specs.Outcome.{Outcome, result_outcome}
+use Rattle.filters.specs.declared.BadSelector.{BadSelector}
+use Rattle.filters.specs.Refusals.{selector_refusal}
 
--- the number and the values of each case; an accepted one is the sample
-abbrev pub sample_outcome : Interpolated → Outcome ℕ
-sample_outcome (interpolated.Sample s) = accepted s
-sample_outcome interpolated.BadSelector = refused 13 []
+abbrev pub sample_outcome : Result ℕ BadSelector → Outcome ℕ
+sample_outcome = result_outcome selector_refusal

@@ -1,7 +1,7 @@
 // The six-tap filter of a macroblock: RFC 6386 section 18.3.
 #![tactic(auto)]
 
-ghost use Rattle.std.specs.Prelude.{◌≡◌, ◌+◌, ◌-◌, ◌*◌, ◌/◌, ◌≤◌, ◌<◌, min, length, get_or};
+ghost use Rattle.std.specs.Prelude.{◌≡◌, List, ℕ, ◌+◌, ◌-◌, ◌*◌, ◌/◌, ◌≤◌, ◌<◌, min, length, get_or};
 ghost use Rattle.laws.specs.Signed.{above, below};
 ghost use Rattle.laws.specs.Outcome.{first_of};
 ghost use Rattle.laws.specs.Tabulate.{tabulate};
@@ -11,10 +11,13 @@ ghost use Rattle.prediction.specs.Prediction.{filtered_mb};
 ghost use Rattle.filters.specs.Refusals.{filter_lines, selector_lines, FilterIs};
 ghost use Rattle.filters.specs.Internal.{window, across_of, down_of};
 ghost use Rattle.sixtap.specs.Refusals.{sample_outcome};
-ghost use Rattle.sixtap.specs.Internal.{Row, Small, sample_of, across, down};
+ghost use Rattle.sixtap.specs.Internal.{Row, sample_of, Gives, across, down};
 
-use filters::{FilterAnswer, FilteredMb};
+mod taps;
+
+use filters::{BadSelector, FilteredMb};
 use prediction::inverse_transform::clamp255;
+use taps::Taps;
 
 // The six-tap rows, by selector.
 pub const SIXTAP_FILTERS: [[i32; 6]; 8] = [
@@ -28,18 +31,8 @@ pub const SIXTAP_FILTERS: [[i32; 6]; 8] = [
     [0, -1, 12, 123, -6, 0],
 ];
 
-// The sizes of a row of taps; the second and the fifth are taken away, the others added.
-#[derive(Clone, Copy)]
-pub(crate) struct Taps {
-    pub a: u16,
-    pub b: u16,
-    pub c: u16,
-    pub d: u16,
-    pub e: u16,
-    pub f: u16,
-}
-
-// The size of a tap that is added, which is not negative.
+// The size of a tap that is added, which is not negative. Each sign has its function, so that a table with another sign is refused (the edit
+// `added_for_taken`).
 fn added_size(t: i32) -> u16
     requires { (above t ≤ 128) × (below t ≡ 0) }
     ensures { result ≡ above t }
@@ -59,7 +52,7 @@ fn taken_size(t: i32) -> u16
 // The row of a selector.
 fn row(s: usize) -> Taps
     requires { s < 8 }
-    ensures { Row s result × Small result }
+    ensures { Row s result }
 {
     let t = SIXTAP_FILTERS[s];
     let a = added_size(t[0]);
@@ -68,14 +61,7 @@ fn row(s: usize) -> Taps
     let d = added_size(t[3]);
     let e = taken_size(t[4]);
     let f = added_size(t[5]);
-    Taps {
-        a: a,
-        b: b,
-        c: c,
-        d: d,
-        e: e,
-        f: f,
-    }
+    Taps { a, b, c, d, e, f }
 }
 
 // A tap times a sample.
@@ -98,7 +84,6 @@ fn rounded(p: u16, n: u16) -> u8
 
 // One filtered sample.
 fn filter(t: Taps, support: [u8; 6]) -> u8
-    requires { Small t }
     ensures { result ≡ sample_of t support }
 {
     let p = weighed(t.a, support[0])
@@ -109,33 +94,24 @@ fn filter(t: Taps, support: [u8; 6]) -> u8
     rounded(p, n)
 }
 
-// A filtered sample, or that the selector exceeds 7.
-#[derive(Clone, Copy)]
-pub enum Interpolated {
-    Sample(u8),
-    BadSelector,
-}
-
 // One sample filtered by the six-tap row of a selector.
-pub fn interp(selector: u32, support: [u8; 6]) -> Interpolated
+pub fn interp(selector: u32, support: [u8; 6]) -> Result<u8, BadSelector>
     ensures { sample_outcome result ≡ first_of (selector_lines selector) (filtered (sixtap selector) (λ k. get_or support k 0)) }
 {
     if 7 < selector {
-        return Interpolated::BadSelector;
+        return Err(BadSelector);
     }
-    let t = row(selector as usize);
-    Interpolated::Sample(filter(t, support))
+    Ok(filter(row(selector as usize), support))
 }
 
 // The same by row 4, which stands halfway between the third sample and the fourth: a call for one row, which the compiler does side by side.
 pub fn halfway(support: [u8; 6]) -> u8
     ensures { result ≡ filtered (sixtap 4) (λ k. get_or support k 0) }
 {
-    let t = row(4);
-    filter(t, support)
+    filter(row(4), support)
 }
 
-// Six samples, the first at `at`, each `step` past the one before.
+// Six samples, the first at `at`, each `step` past the one before. Not public: no public function has a `requires`, so `arnr` has its own.
 fn gather(a: &[u8], at: usize, step: usize) -> [u8; 6]
     requires { (at + 5 * step < length a.now) × (step ≤ 16) }
     ensures { result ≡ window a.now at step }
@@ -150,125 +126,94 @@ fn gather(a: &[u8], at: usize, step: usize) -> [u8; 6]
     ]
 }
 
-// Row r of the horizontal pass.
-fn horiz_row(out: &mut [u8; 336], halo: &[u8; 441], t: Taps, r: usize)
-    requires { (r < 21) × Small t × (length halo.now ≡ 441) × Filling (across t halo.now) 336 out.old (r * 16) }
-    ensures { Filling (across t halo.now) 336 out.new (r * 16 + 16) }
+// Row r of the horizontal pass. A function of its own: with both loops in one the compiler copies halo and rows once more, and a macroblock
+// takes 1.1 to 1.2 of its time (tried).
+fn horiz_row<F: Fn([u8; 6]) -> u8>(out: &mut [u8; 336], halo: &[u8; 441], sample: &F, r: usize)
+    requires row { (r < 21) × (length halo.now ≡ 441) }
+    requires callable { F.IsAlwaysCallable sample.now }
+    requires filling { (g : List ℕ → ℕ) → Gives (F.post sample.now) g → Filling (across g halo.now) 336 out.old (r * 16) }
+    ensures { (g : List ℕ → ℕ) → Gives (F.post sample.now) g → Filling (across g halo.now) 336 out.new (r * 16 + 16) }
 {
     for k in 0..16 {
-        let support = gather(halo, r * 21 + k, 1);
-        out[r * 16 + k] = filter(t, support);
+        out[r * 16 + k] = sample(gather(halo, r * 21 + k, 1));
     }
 }
 
-// The horizontal pass: 21 rows of 16.
-fn sixtap_horiz(halo: [u8; 441], t: Taps) -> [u8; 336]
-    requires { Small t }
-    ensures { result ≡ tabulate 336 (across t halo) }
+// The horizontal pass: 21 rows of 16, each sample as `sample` makes it of six.
+fn sixtap_horiz<F: Fn([u8; 6]) -> u8>(halo: [u8; 441], sample: F) -> [u8; 336]
+    requires { F.IsAlwaysCallable sample }
+    ensures { (g : List ℕ → ℕ) → Gives (F.post sample) g → result ≡ tabulate 336 (across g halo) }
 {
     let mut out = [0u8; 336];
     for r in 0..21 {
-        horiz_row(&mut out, &halo, t, r);
+        horiz_row(&mut out, &halo, &sample, r);
     }
     out
 }
 
 // The vertical pass: 16 rows of 16.
-fn sixtap_vert(rows: [u8; 336], t: Taps) -> [u8; 256]
-    requires { Small t }
-    ensures { result ≡ tabulate 256 (down t rows) }
+fn sixtap_vert<F: Fn([u8; 6]) -> u8>(rows: [u8; 336], sample: F) -> [u8; 256]
+    requires { F.IsAlwaysCallable sample }
+    ensures { (g : List ℕ → ℕ) → Gives (F.post sample) g → result ≡ tabulate 256 (down g rows) }
 {
     let mut out = [0u8; 256];
     for i in 0..256 {
-        let support = gather(&rows, i, 16);
-        out[i] = filter(t, support);
+        out[i] = sample(gather(&rows, i, 16));
     }
     out
 }
 
-// A sample as it is.
-fn kept(x: u8) -> u8
-    ensures { result ≡ min x 255 }
+// The third of six samples, as it is: what row 0 makes of them.
+fn third(support: [u8; 6]) -> u8
+    ensures { result ≡ get_or support 2 0 }
 {
-    x
+    support[2]
 }
 
-// Row r of the horizontal pass where its selector is 0.
-fn copy_row(out: &mut [u8; 336], halo: &[u8; 441], r: usize)
-    requires { (r < 21) × (length halo.now ≡ 441) × Filling (across_of sixtap 0 halo.now) 336 out.old (r * 16) }
-    ensures { Filling (across_of sixtap 0 halo.now) 336 out.new (r * 16 + 16) }
-{
-    for k in 0..16 {
-        out[r * 16 + k] = kept(halo[r * 21 + k + 2]);
-    }
-}
-
-// The horizontal pass where its selector is 0.
-fn middle_columns(halo: [u8; 441]) -> [u8; 336]
-    ensures { result ≡ tabulate 336 (across_of sixtap 0 halo) }
-{
-    let mut out = [0u8; 336];
-    for r in 0..21 {
-        copy_row(&mut out, &halo, r);
-    }
-    out
-}
-
-// The vertical pass where its selector is 0.
-fn middle_rows(rows: [u8; 336]) -> [u8; 256]
-    ensures { result ≡ tabulate 256 (down_of sixtap 0 rows) }
-{
-    let mut out = [0u8; 256];
-    for i in 0..256 {
-        out[i] = kept(rows[i + 32]);
-    }
-    out
-}
-
-// The horizontal pass of a selector.
+// The horizontal pass of a selector; with selector 0 it copies.
 fn horizontal(halo: [u8; 441], mx: usize) -> [u8; 336]
     requires { mx < 8 }
     ensures { result ≡ tabulate 336 (across_of sixtap mx halo) }
 {
     if mx == 0 {
-        return middle_columns(halo);
+        return sixtap_horiz(halo, third);
     }
     let t = row(mx);
-    sixtap_horiz(halo, t)
+    let sample = |support|
+        ensures { result ≡ sample_of t support }
+    { filter(t, support) };
+    sixtap_horiz(halo, sample)
 }
 
-// The vertical pass of a selector.
+// The vertical pass of a selector; with selector 0 it copies.
 fn vertical(rows: [u8; 336], my: usize) -> [u8; 256]
     requires { my < 8 }
     ensures { result ≡ tabulate 256 (down_of sixtap my rows) }
 {
     if my == 0 {
-        return middle_rows(rows);
+        return sixtap_vert(rows, third);
     }
     let t = row(my);
-    sixtap_vert(rows, t)
+    let sample = |support|
+        ensures { result ≡ sample_of t support }
+    { filter(t, support) };
+    sixtap_vert(rows, sample)
 }
 
 // The macroblock filtered from its halo, the horizontal pass first.
 pub fn sixtap_mb_luma(halo: [u8; 441], mx: u32, my: u32) -> FilteredMb
     ensures { FilterIs (first_of (filter_lines mx my) (filtered_mb sixtap mx my halo)) 256 result.answer result.block }
 {
-    if 7 < mx {
+    if 7 < mx || 7 < my {
         return FilteredMb {
-            answer: FilterAnswer::BadSelector,
-            block: [0u8; 256],
-        };
-    }
-    if 7 < my {
-        return FilteredMb {
-            answer: FilterAnswer::BadSelector,
+            answer: Err(BadSelector),
             block: [0u8; 256],
         };
     }
     let rows = horizontal(halo, mx as usize);
     let block = vertical(rows, my as usize);
     FilteredMb {
-        answer: FilterAnswer::Filtered,
-        block: block,
+        answer: Ok(()),
+        block,
     }
 }

@@ -1,50 +1,67 @@
-// The numbers of stored records, which the replaying programs read: eight bytes each, the lowest first.
+// What the replaying programs share: the numbers of stored records, eight bytes each, the lowest first; and what they count.
 #![tactic(auto)]
 
-ghost use Rattle.std.specs.Prelude.{◌≡◌, ◌+◌, ◌≤◌, ◌<◌, length, take};
-ghost use Rattle.std.specs.Io.KnownBytes.{Consumes};
-ghost use Rattle.stored.specs.Stored.{word_at, number_at};
+pub mod tally;
 
+ghost use Rattle.std.specs.Prelude.{◌≡◌, ◌≤◌, ◌⊎◌, length, take, OnOk};
+ghost use Rattle.std.specs.Io.KnownBytes.{Consumes, IsAtEnd};
+ghost use Rattle.stored.specs.Stored.{number_at, part_of, component_of, vector_of};
+
+use prediction::motion_vector::Mv;
+use std::io;
 use std::io::Read;
-
-fn wide(b: u8) -> usize
-    ensures { (result ≡ b) × (result < 256) }
-{
-    b as usize
-}
-
-// Four bytes.
-fn word(bytes: &[u8], at: usize) -> usize
-    requires { at + 4 ≤ length bytes.now }
-    ensures { (result ≡ word_at bytes.now at) × (result < 4294967296) }
-{
-    wide(bytes[at])
-        + wide(bytes[at + 1]) * 256
-        + wide(bytes[at + 2]) * 65536
-        + wide(bytes[at + 3]) * 16777216
-}
 
 // The number at an index; 0 where the bytes end before it does.
 pub fn number(bytes: &[u8], index: usize) -> usize
     ensures { result ≡ number_at bytes.now index }
 {
-    if index < bytes.len() / 8 {
-        return word(bytes, index * 8) + word(bytes, index * 8 + 4) * 4294967296;
+    match bytes.as_chunks::<8>().0.get(index) {
+        Some(eight) => usize::from_le_bytes(*eight),
+        None => 0,
     }
-    0
 }
 
-// Reads until the buffer is full, the input ends or a read fails, and answers how many bytes it put at the buffer's start.
-pub fn read_full<R: Read>(input: &mut R, buf: &mut [u8]) -> usize
-    ensures within { result ≤ length buf.new }
-    ensures bytes { Consumes (R.remaining input.old) (R.remaining input.new) (take result buf.new) }
+// A part of the bytes; nothing where it runs past them.
+pub fn part(bytes: &[u8], start: usize, len: usize) -> &[u8]
+    ensures { result.now ≡ part_of bytes.now start len }
+{
+    match bytes.get(start..) {
+        Some(rest) => rest.get(..len).unwrap_or(&[]),
+        None => &[],
+    }
+}
+
+// A 16-bit component that was stored with 32768 added.
+fn component(biased: usize) -> i16
+    ensures { result ≡ component_of biased }
+{
+    ((biased % 65536) as i32 - 32768) as i16
+}
+
+// A vector: the row plus 65536 times the column.
+pub fn vector(packed: usize) -> Mv
+    ensures { result ≡ vector_of packed }
+{
+    Mv {
+        row: component(packed),
+        col: component(packed / 65536),
+    }
+}
+
+// Reads until the buffer is full, the input ends or a read fails, and answers how many bytes it put at the buffer's start, beside
+// the error of a read that failed. Not a Result of the count: the bytes read before an error count too.
+pub fn read_full<R: Read>(input: &mut R, buf: &mut [u8]) -> (usize, io::Result<()>)
+    ensures within { result.0 ≤ length buf.new }
+    ensures bytes { Consumes (R.remaining input.old) (R.remaining input.new) (take result.0 buf.new) }
+    ensures end { OnOk result.1 ((result.0 ≡ length buf.new) ⊎ IsAtEnd (R.remaining input.new)) }
 {
     let mut done = 0;
     while done < buf.len() {
         match input.read(&mut buf[done..]) {
-            Ok(0) | Err(_) => break,
+            Ok(0) => break,
             Ok(n) => done += n,
+            Err(e) => return (done, Err(e)),
         }
     }
-    done
+    (done, Ok(()))
 }

@@ -1,12 +1,8 @@
 -- Demand 3's distance: how far a denoised sample can lie from the centre sample, and how large its sum and total weight can be.
 -- Over any list of other frames, any displaced samples and any shares that are at most the curve's weight of their difference. Assumes nothing.
-use mathlib.Core.Path.{◌≡◌, refl, ap}
-use mathlib.Core.List.{List, [], ◌∷◌}
-use Prim.Native.Nat.{ℕ, suc, ◌+◌, ◌-◌, ◌*◌, ◌/◌, ◌≤◌, ◌<◌}
-use native.Mathlib.Nat.{div-lt_iff_lt-mul, le-div_iff_mul-le, le_trans, mul-le-mul_left, mul-le-mul_right, lt_of_mul-lt-mul_left}
-use native.Mathlib.Decide.{dec_le}
-use native.Mathlib.Omega.{arith}
-use lib.ListN.{length, get_or}
+use Rattle.std.proofs.Common.{◌≡◌, refl, ap, List, [], ◌∷◌, ℕ, suc, ◌+◌, ◌-◌, ◌*◌, ◌/◌, ◌≤◌, ◌<◌, div-lt_iff_lt-mul, le-div_iff_mul-le, le_trans, mul-le-mul_left, mul-le-mul_right, arith, length, get_or}
+use Rattle.std.proofs.Math.Decide.{dec_le}
+use Rattle.std.proofs.Math.Nat.{lt_of_mul-lt-mul_left}
 use Rattle.laws.specs.Sums.{sum_over}
 use Rattle.laws.specs.Largest.{nearest}
 use Rattle.laws.proofs.Largest.{le-largest, nearest-le}

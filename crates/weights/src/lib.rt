@@ -12,7 +12,7 @@ ghost use Rattle.weights.specs.Blend.{distance_bound};
 use table::WEIGHTS;
 
 // How strongly other frames are blended: 0 only crops the centre, 7 to 255 are read as 6.
-#[derive(Clone, Copy)]
+#[derive(Clone, Copy, Debug, PartialEq, Eq)]
 pub struct ArnrConfig {
     pub strength: u8,
 }
@@ -25,20 +25,9 @@ impl ArnrConfig {
     pub fn new(strength: u8) -> ArnrConfig
         ensures { result.strength ≡ min strength 6 }
     {
-        if strength < ArnrConfig::MAX_STRENGTH {
-            ArnrConfig { strength: strength }
-        } else {
-            ArnrConfig {
-                strength: ArnrConfig::MAX_STRENGTH,
-            }
+        ArnrConfig {
+            strength: strength.min(ArnrConfig::MAX_STRENGTH),
         }
-    }
-
-    // Strength 3.
-    pub fn default() -> ArnrConfig
-        ensures { result.strength ≡ 3 }
-    {
-        ArnrConfig { strength: 3 }
     }
 
     // Stores any byte.
@@ -49,14 +38,20 @@ impl ArnrConfig {
     }
 }
 
+// Strength 3.
+impl Default for ArnrConfig {
+    ghost is_default = { λ c. c.strength ≡ 3 };
+
+    fn default() -> ArnrConfig {
+        ArnrConfig { strength: 3 }
+    }
+}
+
 // The scale at a strength byte: 7 to 255 are read as 6.
 pub fn scale_of(strength: u8) -> u32
     ensures { result ≡ scale (min strength 6) }
 {
-    if 6 < strength {
-        return 512;
-    }
-    8 << strength
+    8 << strength.min(6)
 }
 
 // The curve of strength row + 1.
@@ -71,13 +66,11 @@ fn row_of(row: usize) -> [u32; 256]
 pub fn curve(strength: u8) -> [u32; 256]
     ensures { result ≡ tabulate 256 (weight_read strength) }
 {
-    if strength == 0 {
-        return [0; 256];
+    match strength {
+        0 => [0; 256],
+        1..=6 => row_of(strength as usize - 1),
+        _ => row_of(5),
     }
-    if 6 < strength {
-        return row_of(5);
-    }
-    row_of(strength as usize - 1)
 }
 
 // The weight of one difference.
@@ -103,13 +96,8 @@ pub fn distance_bound(n: u32, strength: u8) -> u32
 {
     let shares = curve(strength);
     let mut bound: u64 = 0;
-    let mut e: usize = 0;
-    while e < 256 {
-        let moved = moved_by(n as u64, e as u64, shares[e] as u64);
-        if bound < moved {
-            bound = moved;
-        }
-        e += 1;
+    for e in 0..256 {
+        bound = bound.max(moved_by(n as u64, e as u64, shares[e] as u64));
     }
     bound as u32
 }

@@ -1,12 +1,7 @@
 -- What is known where the checks of a builder call refuse nothing. Assumes nothing.
-use mathlib.Core.Path.{◌≡◌, refl, sym, ap, ◌∙◌}
-use mathlib.Core.Bool.{false, not, ◌||◌}
-use Prim.Native.Nat.{ℕ, zero, suc, ◌*◌, ◌≤◌, ◌<◌}
-use native.Mathlib.Nat.{mul-le-mul}
-use native.Mathlib.Omega.{arith}
-use borrow.Author.Tests.{ltb-false, leb-false, eqb-true, not-false}
-use lib.Dec.{ltb, eqb}
-use lib.ListN.{length}
+use Rattle.std.proofs.Common.{◌≡◌, refl, sym, ap, ◌∙◌, false, not, ◌||◌, ℕ, zero, suc, ◌*◌, ◌≤◌, ◌<◌, mul-le-mul, arith, ltb-false, leb-false, eqb-true, ltb, eqb, length}
+use Rattle.std.proofs.lemmas.Bool.{not-false}
+use Rattle.std.specs.Prelude.{Result, Ok, Err}
 use Rattle.laws.specs.Outcome.{accepted}
 use Rattle.laws.proofs.Outcome.{skipped, answered, or_none}
 use Rattle.laws.specs.First.{first_below}
@@ -16,8 +11,6 @@ use Rattle.prediction.specs.Refusals.{bad_side}
 use Rattle.fetch.proofs.Squares.{sized}
 use Rattle.window.specs.declared.Size.{Size}
 use Rattle.window.specs.declared.Refusal.{Refusal}
-use Rattle.window.specs.declared.Checked.{Checked}
-use Rattle.window.specs.declared.Checked.TheVariants.{Legal, Refused}
 use Rattle.window.specs.Layout.{half, packed_size}
 use Rattle.window.specs.Frames.{numbers_per_frame, plane_of}
 use Rattle.window.specs.Refusals.{Given, count_of, frame_of, centre_of, other_sized, cap_too_high, plane_unfit}
@@ -99,10 +92,10 @@ built c s e =
     })
 
 -- what a caller knows of each answer of `check_build`
-pub legal : (c : Given) (r : Checked) (s : Size) → checked_outcome r ≡ checks c → r ≡ Legal s → Built c s
+pub legal : (c : Given) (r : Result Size Refusal) (s : Size) → checked_outcome r ≡ checks c → r ≡ Ok s → Built c s
 legal c r s e l = built c s (sym e ∙ ap checked_outcome l)
 
-pub refused_is : (c : Given) (r : Checked) (why : Refusal) → checked_outcome r ≡ checks c → r ≡ Refused why → checks c ≡ refusal_outcome why
+pub refused_is : (c : Given) (r : Result Size Refusal) (why : Refusal) → checked_outcome r ≡ checks c → r ≡ Err why → checks c ≡ refusal_outcome why
 refused_is c r why e l = sym e ∙ ap checked_outcome l
 
 -- P of a legal size is at most 402620417

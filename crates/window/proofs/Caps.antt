@@ -1,16 +1,9 @@
 -- Where every cap is at most 16, the checks are document 01's. Assumes nothing.
-use mathlib.Core.Path.{◌≡◌}
-use mathlib.Core.Bool.{false, ◌||◌}
-use mathlib.Core.List.{List, [], ◌∷◌}
-use Prim.Native.Nat.{ℕ, ◌≤◌, ◌<◌}
-use native.Mathlib.Omega.{arith}
-use borrow.Author.Tests.{le-ltb}
-use lib.Dec.{ltb, leb}
+use Rattle.std.proofs.Common.{◌≡◌, false, ◌||◌, List, [], ◌∷◌, ℕ, ◌≤◌, ◌<◌, arith, le-ltb, ltb, leb}
 use Rattle.laws.specs.Outcome.{Line, line, first_of}
 use Rattle.laws.proofs.First.{not_found}
 use Rattle.prediction.specs.Refusals.{bad_side}
 use Rattle.window.specs.Refusals.{Given, count_of, frame_of, centre_of, cap_too_high, first_other_sized, first_cap_too_high, first_unfit, samples_of, size_values, build_lines}
-use Rattle.window.proofs.Lines.{test29}
 
 -- refusals 1 to 7 alone, as in document 01
 abbrev pub plain_lines : Given → List Line
@@ -25,7 +18,7 @@ plain_lines c =
     ∷ []
 
 module _ (c : Given) (caps : (g : ℕ) → g < count_of c → (frame_of c g).cap ≤ 16) where
-  none_high : test29 c ≡ false
+  none_high : ltb (first_cap_too_high c) (count_of c) ≡ false
   unfolding first_cap_too_high
   none_high =
       let e = not_found (cap_too_high c) (count_of c) (count_of c) (λ g l. le-ltb 16 (frame_of c g).cap (caps g l)) (omega arith) (omega arith) in

@@ -1,9 +1,5 @@
 -- Laws of frames as numbers, and that the private definitions are those of Refusals. Assumes nothing.
-use mathlib.Core.Path.{◌≡◌, refl}
-use mathlib.Core.List.{List}
-use Prim.Native.Nat.{ℕ, ◌≤◌, ◌<◌, ◌+◌, ◌*◌}
-use borrow.Author.Tests.{lt-ltb, le-ltb}
-use lib.ListN.{length, get_or}
+use Rattle.std.proofs.Common.{◌≡◌, refl, List, ℕ, ◌≤◌, ◌<◌, ◌+◌, ◌*◌, lt-ltb, le-ltb, length, get_or}
 use Rattle.window.specs.Frames.{numbers_per_frame, frame_count, number_at, frame_at, zero_frame}
 use Rattle.window.specs.Refusals.{Given, centre_of, first_other_sized, first_cap_too_high, first_unfit}
 use Rattle.window.specs.Internal.{size_differs, cap_above, planes_unfit, first_frame}

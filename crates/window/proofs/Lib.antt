@@ -1,5 +1,5 @@
 pub mod Frames
+pub mod Lines
 mod Scan
-mod Lines
 pub mod Built
 pub mod Caps

@@ -1,8 +1,5 @@
 -- The ways out of the checks: the first line that applies, after those that do not. Assumes nothing.
-use mathlib.Core.Path.{◌≡◌}
-use mathlib.Core.Bool.{Bool, true, false, ◌||◌}
-use mathlib.Core.List.{[], ◌∷◌}
-use lib.Dec.{ltb, leb}
+use Rattle.std.specs.Prelude.{◌≡◌, Bool, true, false, ◌||◌, [], ◌∷◌, ltb, leb}
 use Rattle.laws.specs.Outcome.{refused, accepted}
 use Rattle.prediction.specs.Refusals.{bad_side}
 use Rattle.window.specs.Refusals.{Given, count_of, frame_of, centre_of, first_other_sized, first_cap_too_high, first_unfit, samples_of, size_values, size_of, checks}

@@ -1,6 +1,6 @@
 -- What the private functions find, over one frame and over the numbers of all. No public contract uses these definitions;
 -- `restated` (proofs/Frames.antt) says that they are those of Refusals. Assumes nothing.
-use Rattle.std.specs.Prelude.{Bool, not, ◌||◌, List, [], ℕ, ltb, eqb}
+use Rattle.std.specs.Prelude.{◌≡◌, Bool, true, false, not, ◌||◌, List, [], ℕ, ◌<◌, ltb, eqb, Option, Some, None}
 use Rattle.laws.specs.First.{first_below}
 use Rattle.prediction.specs.Plane.{bytes_needed}
 use Rattle.window.specs.declared.Frame.{Frame}
@@ -24,3 +24,14 @@ planes_unfit n f = plane_short n f 0 || (plane_short n f 1 || plane_short n f 2)
 -- the first frame with such a property; the frame count where there is none
 abbrev pub first_frame : (Frame → Bool) → List ℕ → ℕ
 first_frame p numbers = first_below (λ g. p (frame_at numbers g)) (frame_count numbers)
+
+-- frame g is the first of which a test answers true
+pub record First (says : Frame → Bool → Type 0) (numbers : List ℕ) (g : ℕ) : Type 0 where
+  pub within : g < frame_count numbers
+  pub here : says (frame_at numbers g) true
+  pub before : (j : ℕ) → j < g → says (frame_at numbers j) false
+
+-- what a search over the frames finds, by what a test may answer of a frame: the first frame of which it answers true, if there is one
+pub record FirstBy (says : Frame → Bool → Type 0) (numbers : List ℕ) (r : Option ℕ) : Type 0 where
+  pub none : r ≡ None → (j : ℕ) → j < frame_count numbers → says (frame_at numbers j) false
+  pub some : (g : ℕ) → r ≡ Some g → First says numbers g

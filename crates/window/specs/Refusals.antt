@@ -1,6 +1,6 @@
 -- Refusals 1 to 7 of document 01, in its order, and 29 of document 02 directly after 4. Assumes nothing.
-use Rattle.std.specs.Prelude.{Bool, not, ◌||◌, List, [], ◌∷◌, ℕ, ltb, leb, eqb, length}
-use Rattle.laws.specs.Outcome.{Outcome, refused, accepted, Line, line, first_of}
+use Rattle.std.specs.Prelude.{Bool, not, ◌||◌, List, [], ◌∷◌, ℕ, ltb, leb, eqb, length, Result}
+use Rattle.laws.specs.Outcome.{Outcome, refused, Line, line, first_of, result_outcome}
 use Rattle.laws.specs.First.{first_below}
 use Rattle.prediction.specs.Plane.{bytes_needed}
 use Rattle.prediction.specs.Refusals.{bad_side}
@@ -8,8 +8,6 @@ use Rattle.window.specs.declared.Frame.{Frame}
 use Rattle.window.specs.declared.Size.{Size}
 use Rattle.window.specs.declared.Refusal.{Refusal}
 use Rattle.window.specs.declared.Refusal.TheVariants.{NoCentre, TooManyFrames, BadSize, OtherSize, CapTooHigh, PlaneUnfit, ShortOutput, ShortWorking}
-use Rattle.window.specs.declared.Checked.{Checked}
-use Rattle.window.specs.declared.Checked.TheVariants.{Legal, Refused}
 use Rattle.window.specs.Layout.{packed_size}
 use Rattle.window.specs.Frames.{frame_count, frame_at, plane_of}
 
@@ -104,9 +102,8 @@ refusal_outcome ShortWorking = refused 7 []
 abbrev pub size_of : Frame → Size
 size_of f = record { width = f.width; height = f.height }
 
-abbrev pub checked_outcome : Checked → Outcome Size
-checked_outcome (Legal s) = accepted s
-checked_outcome (Refused r) = refusal_outcome r
+abbrev pub checked_outcome : Result Size Refusal → Outcome Size
+checked_outcome = result_outcome refusal_outcome
 
 unfoldable pub checks : Given → Outcome Size
 checks c = first_of (build_lines c) (size_of (centre_of c))

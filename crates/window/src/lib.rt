@@ -3,15 +3,15 @@
 
 ghost use Rattle.std.specs.Prelude.{◌≡◌, ◌||◌, ◌+◌, ◌-◌, ◌*◌, ◌≤◌, ◌<◌, ltb};
 ghost use Rattle.prediction.specs.Refusals.{bad_side};
-ghost use Rattle.window.specs.Layout.{half, packed_size};
-ghost use Rattle.window.specs.Frames.{numbers_per_frame, frame_count, number_at, frame_at};
+ghost use Rattle.window.specs.Layout.{packed_size};
+ghost use Rattle.window.specs.Frames.{frame_count, frame_at};
 ghost use Rattle.window.specs.Refusals.{size_of, checks, checked_outcome, given};
-ghost use Rattle.window.specs.Internal.{size_differs, cap_above, planes_unfit, first_frame};
+ghost use Rattle.window.specs.Internal.{cap_above, planes_unfit, FirstBy};
 
 // A frame: its size, where its planes start in the picture bytes, the bytes from row to row, and its cap: the most that it
 // weighs where it is not the centre.
 #[repr(C)]
-#[derive(Clone, Copy)]
+#[derive(Clone, Copy, Debug, Default, PartialEq, Eq)]
 pub struct Frame {
     pub width: u32,
     pub height: u32,
@@ -24,14 +24,14 @@ pub struct Frame {
 }
 
 // A picture's size.
-#[derive(Clone, Copy)]
+#[derive(Clone, Copy, Debug, PartialEq, Eq)]
 pub struct Size {
     pub width: u32,
     pub height: u32,
 }
 
 // Why a builder call is refused, with the values that are returned.
-#[derive(Clone, Copy)]
+#[derive(Clone, Copy, Debug, PartialEq, Eq)]
 pub enum Refusal {
     NoCentre,
     TooManyFrames,
@@ -43,15 +43,11 @@ pub enum Refusal {
     ShortWorking,
 }
 
-// What the checks of a builder call find: the picture's size, or the first refusal that applies.
-#[derive(Clone, Copy)]
-pub enum Checked {
-    Legal(Size),
-    Refused(Refusal),
-}
-
 // The numbers of one frame.
 pub const NUMBERS_PER_FRAME: usize = 8;
+
+// The most frames that are not refused.
+pub const MAX_FRAMES: usize = 1024;
 
 // The largest cap that is not refused.
 pub const MAX_CAP: u32 = 16;
@@ -63,30 +59,23 @@ pub fn frame_count(numbers: &[u32]) -> usize
     numbers.len() / NUMBERS_PER_FRAME
 }
 
-// Number k of frame g; 0 from the frame count on.
-fn number_at(numbers: &[u32], g: usize, k: usize) -> u32
-    requires { k < numbers_per_frame }
-    ensures { result ≡ number_at numbers.now g k }
-{
-    if frame_count(numbers) <= g {
-        return 0;
-    }
-    numbers[g * NUMBERS_PER_FRAME + k]
-}
-
 // Frame g; from the frame count on, the frame of zeros.
 pub fn frame_at(numbers: &[u32], g: usize) -> Frame
     ensures { result ≡ frame_at numbers.now g }
 {
+    if frame_count(numbers) <= g {
+        return Frame::default();
+    }
+    let f = &numbers[g * NUMBERS_PER_FRAME..];
     Frame {
-        width: number_at(numbers, g, 0),
-        height: number_at(numbers, g, 1),
-        y: number_at(numbers, g, 2),
-        u: number_at(numbers, g, 3),
-        v: number_at(numbers, g, 4),
-        luma_stride: number_at(numbers, g, 5),
-        chroma_stride: number_at(numbers, g, 6),
-        cap: number_at(numbers, g, 7),
+        width: f[0],
+        height: f[1],
+        y: f[2],
+        u: f[3],
+        v: f[4],
+        luma_stride: f[5],
+        chroma_stride: f[6],
+        cap: f[7],
     }
 }
 
@@ -100,82 +89,38 @@ fn size_of(f: Frame) -> Size
     }
 }
 
-// 3: the frame's width or height is 0 or above 16383.
-fn bad_size(f: Frame) -> bool
-    ensures { result ≡ (bad_side f.width || bad_side f.height) }
+// 3: the width or height is 0 or above 16383. The edit `height_unchecked` names this function.
+fn bad_size(size: Size) -> bool
+    ensures { result ≡ (bad_side size.width || bad_side size.height) }
 {
-    fetch::bad_size(f.width as usize, f.height as usize)
+    fetch::bad_size(size.width as usize, size.height as usize)
 }
 
-// 4 of one frame: its size differs from the centre's.
-fn size_differs(f: Frame, centre: Frame) -> bool
-    ensures { result ≡ size_differs centre f }
-{
-    if f.width != centre.width {
-        return true;
-    }
-    f.height != centre.height
-}
-
-// 4: the first frame whose size differs from the centre's; the frame count where there is none.
-fn first_other_sized(numbers: &[u32], centre: Frame) -> usize
-    ensures { result ≡ first_frame (size_differs centre) numbers.now }
-{
-    let count = frame_count(numbers);
-    let mut g: usize = 0;
-    while g < count {
-        if size_differs(frame_at(numbers, g), centre) {
-            return g;
-        }
-        g += 1;
-    }
-    g
-}
-
-// 29 of one frame: its cap exceeds 16.
+// 29 of one frame: its cap exceeds 16. The edits `cap_16_refused` and `cap_17_accepted` name this function.
 fn cap_too_high(f: Frame) -> bool
     ensures { result ≡ cap_above f }
 {
     MAX_CAP < f.cap
 }
 
-// 29: the first frame whose cap exceeds 16; the frame count where there is none.
-fn first_cap_too_high(numbers: &[u32]) -> usize
-    ensures { result ≡ first_frame cap_above numbers.now }
+// The first frame that `has` a property.
+fn first_frame<P: Fn(Frame) -> bool>(numbers: &[u32], has: P) -> Option<usize>
+    requires { P.IsAlwaysCallable has }
+    ensures { FirstBy (P.post has) numbers.now result }
 {
-    let count = frame_count(numbers);
-    let mut g: usize = 0;
-    while g < count {
-        if cap_too_high(frame_at(numbers, g)) {
-            return g;
+    for g in 0..frame_count(numbers) {
+        if has(frame_at(numbers, g)) {
+            return Some(g);
         }
-        g += 1;
     }
-    g
-}
-
-// Half of a width or height, rounded up.
-fn half_up(n: u32) -> u32
-    ensures { result ≡ half n }
-{
-    n / 2 + n % 2
-}
-
-// n - 1, or 0 where n is 0.
-fn less_one(n: u32) -> u32
-    ensures { result ≡ n - 1 }
-{
-    if n == 0 {
-        return 0;
-    }
-    n - 1
+    None
 }
 
 // 5 of one plane: start + (rows - 1) times stride + columns exceeds the length. No sum of 32-bit numbers wraps here.
 fn plane_unfit(length: usize, start: u32, stride: u32, columns: u32, rows: u32) -> bool
     ensures { result ≡ ltb length (start + (rows - 1) * stride + columns) }
 {
-    let before_last = less_one(rows) as u64 * stride as u64;
+    let before_last = rows.saturating_sub(1) as u64 * stride as u64;
     (length as u64) < start as u64 + before_last + columns as u64
 }
 
@@ -183,52 +128,31 @@ fn plane_unfit(length: usize, start: u32, stride: u32, columns: u32, rows: u32) 
 fn frame_unfit(length: usize, f: Frame) -> bool
     ensures { result ≡ planes_unfit length f }
 {
-    if plane_unfit(length, f.y, f.luma_stride, f.width, f.height) {
-        return true;
-    }
-    let columns = half_up(f.width);
-    let rows = half_up(f.height);
-    if plane_unfit(length, f.u, f.chroma_stride, columns, rows) {
-        return true;
-    }
-    plane_unfit(length, f.v, f.chroma_stride, columns, rows)
-}
-
-// 5: the first frame with a plane that does not fit; the frame count where there is none.
-fn first_unfit(length: usize, numbers: &[u32]) -> usize
-    ensures { result ≡ first_frame (planes_unfit length) numbers.now }
-{
-    let count = frame_count(numbers);
-    let mut g: usize = 0;
-    while g < count {
-        if frame_unfit(length, frame_at(numbers, g)) {
-            return g;
-        }
-        g += 1;
-    }
-    g
+    let columns = f.width.div_ceil(2);
+    let rows = f.height.div_ceil(2);
+    plane_unfit(length, f.y, f.luma_stride, f.width, f.height)
+        || plane_unfit(length, f.u, f.chroma_stride, columns, rows)
+        || plane_unfit(length, f.v, f.chroma_stride, columns, rows)
 }
 
 // P: the samples of all three planes.
-fn packed_size(width: u32, height: u32) -> usize
-    requires { (width ≤ 16383) × (height ≤ 16383) }
-    ensures { result ≡ packed_size width height }
+fn packed_size(size: Size) -> usize
+    requires { (size.width ≤ 16383) × (size.height ≤ 16383) }
+    ensures { result ≡ packed_size size.width size.height }
 {
-    let chroma = half_up(width) as usize * half_up(height) as usize;
-    width as usize * height as usize + chroma + chroma
+    let chroma = size.width.div_ceil(2) as usize * size.height.div_ceil(2) as usize;
+    size.width as usize * size.height as usize + chroma + chroma
 }
 
-// 7: either working slice is shorter than P.
+// 7: either working slice is shorter than P. The edit `one_slice_unchecked` names this function.
 fn working_short(sums: usize, weights: usize, samples: usize) -> bool
     ensures { result ≡ (ltb sums samples || ltb weights samples) }
 {
-    if sums < samples {
-        return true;
-    }
-    weights < samples
+    sums < samples || weights < samples
 }
 
 // The first of the refusals 1, 2, 3, 4, 29, 5, 6, 7 that applies, or the picture's size.
+#[tactic(auto, unfolding(crate::specs::Refusals::checks))]
 pub fn check_build(
     bytes: &[u8],
     numbers: &[u32],
@@ -236,39 +160,37 @@ pub fn check_build(
     output: usize,
     sums: usize,
     weights: usize,
-) -> Checked
+) -> Result<Size, Refusal>
     ensures { checked_outcome result ≡ checks (given bytes.now numbers.now centre output sums weights) }
 {
     let count = frame_count(numbers);
     if count <= centre {
-        return Checked::Refused(Refusal::NoCentre);
+        return Err(Refusal::NoCentre);
     }
-    if 1024 < count {
-        return Checked::Refused(Refusal::TooManyFrames);
+    if MAX_FRAMES < count {
+        return Err(Refusal::TooManyFrames);
     }
-    let frame = frame_at(numbers, centre);
-    let size = size_of(frame);
-    if bad_size(frame) {
-        return Checked::Refused(Refusal::BadSize(size));
+    let size = size_of(frame_at(numbers, centre));
+    if bad_size(size) {
+        return Err(Refusal::BadSize(size));
     }
-    let other = first_other_sized(numbers, frame);
-    if other < count {
-        return Checked::Refused(Refusal::OtherSize(size_of(frame_at(numbers, other)), size));
+    let other_sized = |f: Frame| size_of(f) != size;
+    if let Some(g) = first_frame(numbers, other_sized) {
+        return Err(Refusal::OtherSize(size_of(frame_at(numbers, g)), size));
     }
-    let high = first_cap_too_high(numbers);
-    if high < count {
-        return Checked::Refused(Refusal::CapTooHigh(high as u32));
+    if let Some(g) = first_frame(numbers, cap_too_high) {
+        return Err(Refusal::CapTooHigh(g as u32));
     }
-    let unfit = first_unfit(bytes.len(), numbers);
-    if unfit < count {
-        return Checked::Refused(Refusal::PlaneUnfit(unfit as u32));
+    let unfit = |f: Frame| frame_unfit(bytes.len(), f);
+    if let Some(g) = first_frame(numbers, unfit) {
+        return Err(Refusal::PlaneUnfit(g as u32));
     }
-    let samples = packed_size(size.width, size.height);
+    let samples = packed_size(size);
     if output < samples {
-        return Checked::Refused(Refusal::ShortOutput);
+        return Err(Refusal::ShortOutput);
     }
     if working_short(sums, weights, samples) {
-        return Checked::Refused(Refusal::ShortWorking);
+        return Err(Refusal::ShortWorking);
     }
-    Checked::Legal(size)
+    Ok(size)
 }

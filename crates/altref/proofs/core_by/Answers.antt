@@ -1,7 +1,4 @@
 -- `altref::core_by` meets its contract: refusals 1 and 2 by their definition, all else by the contract of the builder over numbers. Assumes nothing.
-use mathlib.Core.Path.{sym}
-use native.Mathlib.Omega.{arith}
-use lib.Seq.{length-take-le}
 use Rattle.altref.proofs.Refuses.{no_centre, too_many}
 use Rattle.altref.proofs.core_by.Goals as goal
 
@@ -10,12 +7,6 @@ returns-then-count-centre c xs b = no_centre _ _ xs _ _ _ _ b.0 c.if-count-centr
 
 pub returns-then-count-gt-MAX_FRAMES : goal.returns-then-count-gt-MAX_FRAMES
 returns-then-count-gt-MAX_FRAMES c xs b = too_many _ _ xs _ _ _ _ b.0 c.if-count-centre.false c.if-count-gt-MAX_FRAMES.true
-
-pub slice_bounds-build_by-end : goal.slice_bounds-build_by-end
-slice_bounds-build_by-end c =
-    let few = c.if-count-gt-MAX_FRAMES.false in
-    let long = c.well_formed.1.0 in
-    sym (length-take-le _ _ (omega (arith, few, long)))
 
 pub returns : goal.returns
 returns c xs b =

@@ -1,9 +1,5 @@
 -- `copy_row` meets its contract. Assumes nothing.
-use native.Mathlib.Omega.{arith}
-use Prim.Native.Nat.{ℕ, ◌<◌, ◌+◌, ◌*◌, ◌/◌, ◌%◌, min}
-use mathlib.Core.List.{List}
-use mathlib.Core.Path.{◌≡◌, ◌∙◌, ap}
-use lib.ListN.{get_or}
+use Rattle.std.proofs.Common.{arith, ℕ, ◌<◌, ◌+◌, ◌*◌, ◌/◌, ◌%◌, min, List, ◌≡◌, ◌∙◌, ap, get_or}
 use Rattle.laws.proofs.Tabulate.{fill_turn}
 use Rattle.bilinear.specs.Internal.{columns_of}
 use Rattle.bilinear.proofs.Copies.{copied_at}
@@ -15,7 +11,7 @@ place right halo r k h =
     ap (λ (n : ℕ). get_or halo n 0) e
 
 pub loop-k-init : goal.loop-k-init
-loop-k-init c = (omega arith, c.requires.2, copied_at (omega arith) c.requires.3)
+loop-k-init c = (c.requires.2, copied_at (omega arith) c.requires.3)
 
 pub loop-k-preserved : goal.loop-k-preserved
 loop-k-preserved c =
@@ -24,10 +20,9 @@ loop-k-preserved c =
     let e = place a.right a.halo.now a.r l.k (omega arith) in
     let v = c.kept.ensures.0 ∙ e in
     let b = c.kept.ensures.1 ∙ ap (λ (n : ℕ). min n 255) e in (
-      omega arith,
-      l.invariant.1,
-      copied_at (omega arith) (record { samples = fill_turn l.invariant.2.samples (omega arith) v; bytes = fill_turn l.invariant.2.bytes (omega arith) b }),
+      l.invariant.0,
+      copied_at (omega arith) (record { samples = fill_turn l.invariant.1.samples (omega arith) v; bytes = fill_turn l.invariant.1.bytes (omega arith) b }),
     )
 
 pub returns : goal.returns
-returns c = copied_at (omega arith) c.loop-k.invariant.2
+returns c = copied_at (omega arith) c.loop-k.invariant.1

@@ -1,7 +1,5 @@
 -- `first_rows` meets its contract. Assumes nothing.
-use borrow.Author.Rules.{rules}
-use native.Mathlib.Omega.{arith}
-use mathlib.Core.Path.{refl, ◌∙◌}
+use Rattle.std.proofs.Common.{rules, arith, refl, ◌∙◌}
 use Rattle.laws.proofs.Tabulate.{fill_start, fill_turn, fill_end}
 use Rattle.prediction.specs.Filter.{bilinear}
 use Rattle.filters.specs.Internal.{pair_of}

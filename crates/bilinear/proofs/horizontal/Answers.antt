@@ -1,7 +1,5 @@
 -- `horizontal` meets its contract. Assumes nothing.
-use native.Mathlib.Omega.{arith}
-use mathlib.Core.Path.{◌≡◌, ◌∙◌, ap}
-use Prim.Native.Nat.{ℕ}
+use Rattle.std.proofs.Common.{arith, ◌≡◌, ◌∙◌, ap, ℕ}
 use Rattle.laws.specs.Tabulate.{tabulate}
 use Rattle.prediction.specs.Filter.{bilinear}
 use Rattle.filters.specs.Internal.{inner_across}
@@ -16,4 +14,4 @@ returns-then-mx-eq0 c =
 
 pub returns : goal.returns
 returns c =
-    c.bilinear_horiz.ensures ∙ weighed c.args.mx c.args.halo _ _ c.requires c.columns-samples.ensures.0 c.columns-next.ensures.0
+    c.weighed.ensures ∙ weighed c.args.mx c.args.halo _ _ c.requires c.columns-samples.ensures.0 c.columns-next.ensures.0

@@ -1,23 +1,26 @@
-use native.Mathlib.Omega.{arith}
-use Prim.Native.Nat.{ℕ, ◌<◌, ◌+◌, ◌*◌, ◌/◌, ◌%◌}
-use mathlib.Core.Path.{◌≡◌, ◌∙◌, ap}
+use Rattle.std.proofs.Common.{arith, ◌≡◌, ◌∙◌, ap, List, ℕ, ◌<◌, ◌+◌, ◌*◌, ◌/◌, ◌%◌}
 use Rattle.laws.proofs.Tabulate.{fill_turn, fill_at}
-use Rattle.sixtap.specs.Internal.{sample_of}
 use Rattle.filters.specs.Internal.{window}
+use Rattle.sixtap.specs.Internal.{across}
 use Rattle.sixtap.proofs.horiz_row.Goals as goal
 
 place : (r k : ℕ) → k < 16 → r * 21 + k ≡ (r * 16 + k) / 16 * 21 + (r * 16 + k) % 16
 place r k h = omega arith
 
+made : (f : List ℕ → ℕ) (halo support : List ℕ) (y r k : ℕ) → k < 16 → y ≡ f support → support ≡ window halo (r * 21 + k) 1 → y ≡ across f halo (r * 16 + k)
+made f halo support y r k h e p = e ∙ ap f p ∙ ap (λ (n : ℕ). f (window halo n 1)) (place r k h)
+
 pub loop-k-init : goal.loop-k-init
-loop-k-init c = (omega arith, c.requires.2, fill_at (omega arith) c.requires.3)
+loop-k-init g c = (c.requires.row.1, λ f h. fill_at (omega arith) (c.requires.filling f h))
 
 pub loop-k-preserved : goal.loop-k-preserved
-loop-k-preserved c =
-    let l = c.loop-k in
-    let a = c.args in
-    let v = c.filter.ensures ∙ ap (sample_of _) c.gather-support.ensures ∙ ap (λ (n : ℕ). sample_of a.t (window a.halo.now n 1)) (place a.r l.k (omega arith)) in
-    (omega arith, l.invariant.1, fill_at (omega arith) (fill_turn l.invariant.2 (omega arith) v))
+loop-k-preserved g c =
+    let l = c.loop-k in (
+      l.invariant.0,
+      λ f h. fill_at (omega arith)
+          (fill_turn (l.invariant.1 f h) (omega arith)
+          (made f _ _ _ c.args.r l.k (omega arith) (h _ _ c.sample.type_inv c.sample.ensures) c.gather.ensures)),
+    )
 
 pub returns : goal.returns
-returns c = fill_at (omega arith) c.loop-k.invariant.2
+returns g c = λ f h. fill_at (omega arith) (c.loop-k.invariant.1 f h)

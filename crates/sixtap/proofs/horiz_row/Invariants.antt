@@ -1,12 +1,8 @@
-use Prim.Native.Nat.{◌≤◌, ◌-◌, ◌+◌, ◌*◌}
-use mathlib.Core.Path.{◌≡◌}
-use lib.ListN.{length}
+use Rattle.std.proofs.Common.{◌≡◌, List, ℕ, ◌+◌, ◌*◌, length}
 use Rattle.laws.specs.Internal.{Filling}
-use Rattle.sixtap.specs.Internal.{across}
+use Rattle.sixtap.specs.Internal.{Gives, across}
 use Rattle.sixtap.proofs.horiz_row.Given as goal
 
 abbrev pub invariant-loop-k : goal.invariant-loop-k
-invariant-loop-k l = (l.k ≤ 16) × (length l.halo ≡ 441) × Filling (across l.t l.halo) 336 l.out (l.r * 16 + l.k)
-
-abbrev pub decreases-loop-k : goal.decreases-loop-k
-decreases-loop-k l = 16 - l.k
+invariant-loop-k g l =
+    (length l.halo ≡ 441) × ((f : List ℕ → ℕ) → Gives (goal.F-post g l.sample) f → Filling (across f l.halo) 336 l.out (l.r * 16 + l.k))

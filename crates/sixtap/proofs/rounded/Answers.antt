@@ -1,13 +1,8 @@
 -- `rounded` meets its contract: 8192 is added before the division and taken away within it, and both ends are left to the clamp.
 -- Assumes nothing.
-use mathlib.Core.Path.{◌≡◌, refl, ◌∙◌}
-use Prim.Native.Nat.{ℕ, ◌+◌, ◌-◌, ◌/◌, ◌≤◌, min}
-use native.Mathlib.Omega.{arith}
-use lib.IntN.{ℤ, pos, ◌-ℤ◌}
-use lib.Signed.{shr_z}
-use mir.Syntax.{w16, w32}
-use mir.Val.{SFits, to_z, of_z}
-use mir.Facts.{to_z-of_z, to_z_pos}
+use Rattle.std.proofs.Common.{◌≡◌, refl, ◌∙◌, ℕ, ◌+◌, ◌-◌, ◌/◌, ◌≤◌, min, arith, ℤ, pos, ◌-ℤ◌, w16, w32, SFits, to_z, of_z, to_z-of_z}
+use Rattle.std.specs.Int.Signed.{shr_z}
+use Rattle.std.proofs.Math.Facts.{to_z_pos}
 use Rattle.laws.specs.Signed.{above, below, minus}
 use Rattle.laws.proofs.Signed.{diff, floor, floor_shift, fits}
 use Rattle.sixtap.proofs.rounded.Goals as goal

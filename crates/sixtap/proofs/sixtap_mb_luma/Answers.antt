@@ -1,24 +1,12 @@
--- `sixtap_mb_luma` meets its contract: refusal 13, or the two passes. Assumes nothing.
-use mathlib.Core.Path.{◌∙◌, ap}
-use mathlib.Core.List.{List}
-use Prim.Native.Nat.{ℕ}
+-- `sixtap_mb_luma` meets its contract: the two passes. Assumes nothing.
+use Rattle.std.proofs.Common.{List, ℕ, ap, ◌∙◌}
 use Rattle.laws.specs.Tabulate.{tabulate}
 use Rattle.prediction.specs.Filter.{sixtap}
 use Rattle.prediction.specs.Prediction.{filtered_mb}
 use Rattle.filters.specs.Internal.{down_of}
 use Rattle.filters.proofs.Passes.{passes}
-use Rattle.filters.proofs.Answers.{first-refused, second-refused, both_legal}
+use Rattle.filters.proofs.Answers.{both_legal}
 use Rattle.sixtap.proofs.sixtap_mb_luma.Goals as goal
-
-pub returns-then-mx-gt7 : goal.returns-then-mx-gt7
-returns-then-mx-gt7 c =
-    let a = c.args in
-    first-refused a.mx a.my 256 (filtered_mb sixtap a.mx a.my a.halo) c.if-mx-gt7.true
-
-pub returns-then-my-gt7 : goal.returns-then-my-gt7
-returns-then-my-gt7 c =
-    let a = c.args in
-    second-refused a.mx a.my 256 (filtered_mb sixtap a.mx a.my a.halo) c.if-mx-gt7.false c.if-my-gt7.true
 
 pub returns : goal.returns
 returns c =

@@ -1,19 +1,17 @@
-use native.Mathlib.Omega.{arith}
-use borrow.Author.Rules.{rules}
-use mathlib.Core.Path.{refl, ◌∙◌, ap}
+use Rattle.std.proofs.Common.{List, ℕ, ◌≡◌, arith, rules, refl, ◌∙◌, ap}
 use Rattle.laws.proofs.Tabulate.{fill_start, fill_turn, fill_end}
-use Rattle.sixtap.specs.Internal.{sample_of}
 use Rattle.sixtap.proofs.sixtap_vert.Goals as goal
 
+made : (f : List ℕ → ℕ) (y : ℕ) (support w : List ℕ) → y ≡ f support → support ≡ w → y ≡ f w
+made f y support w e p = e ∙ ap f p
+
 pub loop-i-init : goal.loop-i-init
-loop-i-init c = (fill_start refl, search rules)
+loop-i-init g c = (search rules, λ f h. fill_start refl)
 
 pub loop-i-preserved : goal.loop-i-preserved
-loop-i-preserved c =
+loop-i-preserved g c =
     let l = c.loop-i in
-    let v = c.filter.ensures ∙ ap (sample_of _) c.gather-support.ensures in
-    (fill_turn l.invariant.0 (omega arith) v, l.invariant.1)
+    (l.invariant.0, λ f h. fill_turn (l.invariant.1 f h) (omega arith) (made f _ _ _ (h _ _ c.sample.type_inv c.sample.ensures) c.gather.ensures))
 
 pub returns : goal.returns
-returns c =
-    fill_end c.loop-i.invariant.0 (omega arith)
+returns g c = λ f h. fill_end (c.loop-i.invariant.1 f h) (omega arith)

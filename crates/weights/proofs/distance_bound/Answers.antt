@@ -1,10 +1,6 @@
 -- `weights::distance_bound` meets its contract. The invariant: `bound` is the largest over the differences passed. Assumes nothing.
-use mathlib.Core.Path.{◌≡◌, refl, ap, ◌∙◌}
-use mathlib.Core.List.{List}
-use Prim.Native.Nat.{ℕ, ◌+◌, ◌*◌, ◌≤◌, max}
-use native.Mathlib.Numerals.{add-one}
-use native.Mathlib.Omega.{arith}
-use lib.ListN.{get_or}
+use Rattle.std.proofs.Common.{◌≡◌, refl, ap, ◌∙◌, List, ℕ, ◌+◌, ◌*◌, ◌<◌, max, add-one, arith, get_or}
+use Rattle.laws.specs.Tabulate.{tabulate}
 use Rattle.laws.proofs.Tabulate.{get_d_tabulate}
 use Rattle.laws.specs.Largest.{largest, nearest}
 use Rattle.weights.specs.Weights.{weight_read}
@@ -12,9 +8,6 @@ use Rattle.weights.specs.Blend.{distance_bound}
 use Rattle.weights.proofs.Weights.{read_most}
 use Rattle.weights.proofs.distance_bound.Invariants.{moved_at}
 use Rattle.weights.proofs.distance_bound.Goals as goal
-use Rattle.weights.proofs.distance_bound.Goals.{then-bound-moved, else-bound-moved}
-use Prim.Native.Nat.{◌<◌}
-use Rattle.laws.specs.Tabulate.{tabulate}
 
 -- the weight that is read
 read : (strength e : ℕ) (shares : List ℕ) → shares ≡ tabulate 256 (weight_read strength) → e < 256 → get_or shares e 0 ≡ weight_read strength e
@@ -26,15 +19,10 @@ larger f n b h = rw add-one h
 
 pub loop-e-init : goal.loop-e-init
 unfolding largest
-loop-e-init c = (omega arith, omega arith, refl)
+loop-e-init c = (omega arith, refl)
 
-pub overflow_cast-shares : goal.overflow_cast-shares
-overflow_cast-shares c =
-    let r = read c.args.strength c.loop-e.e _ c.curve-shares.ensures (omega arith) in
-    omega (arith, r, read_most c.args.strength c.loop-e.e)
-
-pub moved_by-moved-requires : goal.moved_by-moved-requires
-moved_by-moved-requires c =
+pub moved_by-requires : goal.moved_by-requires
+moved_by-requires c =
     let r = read c.args.strength c.loop-e.e _ c.curve-shares.ensures (omega arith) in
     omega (arith, r, read_most c.args.strength c.loop-e.e)
 
@@ -45,20 +33,11 @@ loop-e-preserved c =
     let e = c.loop-e.e in
     let f = moved_at c.args.strength n in
     let r = read c.args.strength e _ c.curve-shares.ensures (omega arith) in
-    let moved_is : c.moved_by-moved.result ≡ f e =
-    c.moved_by-moved.ensures.0 ∙ ap (λ (w : ℕ). nearest (n * (e * w)) (16 + n * w)) r
-    in
-    let most : c.moved_by-moved.result ≤ 255 = omega (arith, c.moved_by-moved.ensures.1) in
-    let bound-is : c.loop-e.bound ≡ largest f e = c.loop-e.invariant.2 in (
-      omega arith,
-      elim c.if-bound-moved.branch [ then-bound-moved w ↦ omega arith | else-bound-moved w ↦ omega arith ],
-      larger f e c.if-bound-moved.bound
-          (elim c.if-bound-moved.branch [ then-bound-moved w ↦ omega arith | else-bound-moved w ↦ omega arith ]),
-    )
+    let moved_is : c.moved_by.result ≡ f e = c.moved_by.ensures.0 ∙ ap (λ (w : ℕ). nearest (n * (e * w)) (16 + n * w)) r in
+    (omega (arith, c.moved_by.ensures.1), larger f e c.max-bound.result (omega (arith, moved_is)))
 
 pub returns : goal.returns
 unfolding distance_bound moved_at
 returns c =
-    let f = moved_at c.args.strength c.args.n in
     let e_is : c.loop-e.e ≡ 256 = omega arith in
-    c.loop-e.invariant.2 ∙ ap (λ (k : ℕ). largest f k) e_is
+    c.loop-e.invariant.1 ∙ ap (largest (moved_at c.args.strength c.args.n)) e_is

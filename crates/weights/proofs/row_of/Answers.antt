@@ -1,5 +1,5 @@
 -- `weights::row_of` meets its contract: each of the 1536 entries is computed by the rule. Assumes nothing.
-use borrow.Author.Rules.{rules}
+use Rattle.std.proofs.Common.{rules}
 use Rattle.laws.proofs.Tables.{listed}
 use Rattle.weights.specs.Weights.{scale, weight_of}
 use Rattle.weights.proofs.Weights.{table, rows, row_is}

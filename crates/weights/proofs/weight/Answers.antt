@@ -1,9 +1,5 @@
 -- `weights::weight` meets its contract. Assumes nothing.
-use mathlib.Core.Path.{ap, ◌∙◌}
-use mathlib.Core.List.{List}
-use Prim.Native.Nat.{ℕ}
-use lib.ListN.{get_or}
-use borrow.Author.Rules.{rules}
+use Rattle.std.proofs.Common.{ap, ◌∙◌, List, ℕ, get_or, rules}
 use Rattle.laws.proofs.Tabulate.{get_d_tabulate}
 use Rattle.weights.specs.Weights.{weight_read}
 use Rattle.weights.proofs.weight.Goals as goal

@@ -1,22 +1,19 @@
 -- `window::frame_at` meets its contract. Assumes nothing.
+use Rattle.std.proofs.Common.{rules, arith, ◌≡◌, ◌∙◌, sym}
+use Rattle.std.proofs.lemmas.Bool.{lt-ltb}
+use Rattle.std.proofs.lemmas.List.{take_rest, get_or-drop}
+use Rattle.window.specs.Frames.{frame_count, number_at, zero_frame}
+use Rattle.window.proofs.Frames.{frame_past}
 use Rattle.window.proofs.frame_at.Goals as goal
 
+pub returns-then-frame_count-g : goal.returns-then-frame_count-g
+returns-then-frame_count-g c =
+    let zeros : c.default.result ≡ zero_frame = search rules in
+    zeros ∙ sym (frame_past c.args.numbers.now c.args.g (omega (arith, c.frame_count.ensures, c.if-frame_count-g.true)))
+
 pub returns : goal.returns
+unfolding number_at
 returns c =
-    let n7 = c.before in
-    let n6 = n7.before in
-    let n5 = n6.before in
-    let n4 = n5.before in
-    let n3 = n4.before in
-    let n2 = n3.before in
-    let n1 = n2.before in
-    rw (
-      n1.number_at.ensures,
-      n2.number_at-2.ensures,
-      n3.number_at-3.ensures,
-      n4.number_at-4.ensures,
-      n5.number_at-5.ensures,
-      n6.number_at-6.ensures,
-      n7.number_at-7.ensures,
-      c.number_at-8.ensures,
-    )
+    let s = c.args in
+    let inside = lt-ltb s.g (frame_count s.numbers.now) (omega arith) in
+    simp (take_rest, get_or-drop, inside)

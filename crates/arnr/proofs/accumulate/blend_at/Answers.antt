@@ -1,40 +1,22 @@
 -- `arnr::accumulate::blend_at` meets its contract: what the block adds is what the block that covers (x, y) adds, where that is this block. Assumes nothing.
-use mathlib.Core.Path.{◌≡◌, sym, ap, ◌∙◌}
-use mathlib.Core.Bool.{Bool, true, false}
-use Prim.Native.Nat.{ℕ, ◌/◌, ◌≤◌}
-use lib.Dec.{eqb}
+use Rattle.std.proofs.Common.{◌≡◌, sym, ap, ◌∙◌, true, false, ℕ, ◌/◌, eqb}
 use Rattle.denoiser.specs.declared.Block.{Block}
 use Rattle.denoiser.specs.Grid.{grid_block, unit_of}
 use Rattle.denoiser.specs.Chroma.{sample_in, chosen_accepts}
 use Rattle.denoiser.specs.Window.{gate, displacement_of, sad_accepted, block_accepted}
 use Rattle.denoiser.specs.Pictures.{picture_of}
 use Rattle.denoiser.specs.Internal.{Short, chroma_passes, packed_picture, packed_scene, share_by, term_by}
-use Rattle.denoiser.proofs.Cover.{grid_lies, taken, uncovered}
-use Rattle.denoiser.proofs.Gates.{gate_off}
+use Rattle.denoiser.proofs.Cover.{taken, uncovered}
 use Rattle.denoiser.proofs.Passes.{by_chroma, by_luma}
 use Rattle.denoiser.proofs.Pictures.{share-at, term_at}
 use Rattle.denoiser.proofs.Searches.{search_reach}
 use Rattle.denoiser.proofs.Spreads.{spread_same, spread_none}
-use native.Mathlib.Omega.{arith}
 use Rattle.arnr.proofs.accumulate.blend_at.Goals as goal
 
-pub grid_block-b-requires : goal.grid_block-b-requires
-grid_block-b-requires c =
-    let size : (c.args.f.width ≤ 16383) × (c.args.f.height ≤ 16383) = let f = c.requires.whole.fits 0 (omega arith) in (f.wide.1, f.high.1) in
-    (c.requires.i_bound.0, c.requires.i_bound.1, size.0, size.1)
-
-pub motion_at-m-requires : goal.motion_at-m-requires
-motion_at-m-requires c = record { whole = c.requires.whole; i_bound = c.requires.i_bound; height_in_bounds = c.requires.lent.in_out }
-
-pub accepts-requires : goal.accepts-requires
-accepts-requires c =
-    let g = grid_lies c.args.f.width c.args.f.height c.args.i c.args.j c.requires.i_bound.0 c.requires.i_bound.1 in
-    simp c.grid_block-b.ensures (g.slim, g.low)
-
-pub blend_planes-requires : goal.blend_planes-requires
-blend_planes-requires c =
-    let short_motion : Short (displacement_of (packed_scene c.args.f.width c.args.f.height c.args.out.now) (picture_of c.args.bytes.now c.args.f) c.args.i c.args.j) = unfold displacement_of in search_reach _ in
-    record { whole = c.requires.whole; lies = simp c.grid_block-b.ensures (grid_lies c.args.f.width c.args.f.height c.args.i c.args.j c.requires.i_bound.0 c.requires.i_bound.1); short = simp c.motion_at-m.ensures.displacement short_motion; lent = c.requires.lent; light = c.requires.light; slack = c.requires.slack }
+pub blend_planes-requires-clause-short : goal.blend_planes-requires-clause-short
+blend_planes-requires-clause-short c =
+    let short : Short (displacement_of (packed_scene c.args.f.width c.args.f.height c.args.out.now) (picture_of c.args.bytes.now c.args.f) c.args.i c.args.j) = unfold displacement_of in search_reach _ in
+    simp c.motion_at-m.ensures.displacement short
 
 pub returns-then-accepts : goal.returns-then-accepts
 unfolding packed_scene
@@ -48,7 +30,7 @@ returns-then-accepts c =
     let i = c.args.i in
     let j = c.args.j in
     let out = c.args.out.now in
-    let curve = c.args.curve.now in
+    let curve = c.args.curve.now.at in
     let o = c.args.choice in
     let half = o.half_sample in
     let scene = packed_scene w h out in
@@ -57,7 +39,7 @@ returns-then-accepts c =
     let yes : block_accepted scene picture i j ≡ true = sym accepts_is ∙ c.if-accepts.true in
     let by : chosen_accepts o scene picture i j ≡ passes = by_chroma o scene picture i j yes in
     let done = simp (c.grid_block-b.ensures, c.motion_at-m.ensures.displacement) at c.blend_planes.ensures in record {
-      value = done.value ∙ ap (λ (t : Bool). gate t 1) (sym by);
+      value = done.value ∙ sym by;
       spread = spread_same w h _ done.spread
           (λ k x y hk hx hy.
           taken k w h i j x y (chosen_accepts o scene picture) (λ a e. term_by curve (packed_picture w h out k) (sample_in half k (displacement_of scene picture a e) (picture k)) x y) passes hx hy by
@@ -80,13 +62,13 @@ returns-else-accepts c =
     let i = c.args.i in
     let j = c.args.j in
     let out = c.args.out.now in
-    let curve = c.args.curve.now in
+    let curve = c.args.curve.now.at in
     let o = c.args.choice in
     let half = o.half_sample in
     let scene = packed_scene w h out in
     let picture = picture_of c.args.bytes.now f in
     let none : chosen_accepts o scene picture i j ≡ false = by_luma o scene picture i j (sym accepts_is ∙ c.if-accepts.false) in record {
-      value = sym (ap (λ (t : Bool). gate t 1) none ∙ gate_off 1);
+      value = c.if-accepts.false ∙ sym none;
       spread = spread_none w h _ c.args.sums.now
           (λ k x y hx hy.
           ap (λ (t : ℕ). gate (eqb (y / unit_of k) i) (gate (eqb (x / unit_of k) j) t)) (term_at o curve scene picture k x y)

@@ -1,5 +1,4 @@
 -- `arnr::accumulate::blend_block` meets its contract. The loop's invariant: the first r rows of the block are added. Assumes nothing.
-use Prim.Native.Nat.{◌-◌, ◌≤◌}
 use Rattle.prediction.specs.Plane.{sample_at}
 use Rattle.denoiser.specs.Window.{gate}
 use Rattle.denoiser.specs.Search.{displaced_by}
@@ -7,10 +6,7 @@ use Rattle.denoiser.specs.Internal.{Placed, between, share_by, term_by, plane_in
 use Rattle.arnr.proofs.accumulate.blend_block.Given as goal
 
 abbrev pub invariant-loop-r : goal.invariant-loop-r
-invariant-loop-r l =
-    (l.r ≤ l.high)
-    × Placed l.at l.p.columns l.p.rows (λ i j. gate (between l.y l.r j) (gate (between l.x l.n i) (term_by l.curve (sample_at (packed_plane l.at l.p.columns l.p.rows l.out)) (displaced_by l.d (sample_at (plane_in l.bytes l.p))) i j))) l.initial.sums l.sums
-    × Placed l.at l.p.columns l.p.rows (λ i j. gate (between l.y l.r j) (gate (between l.x l.n i) (share_by l.curve (sample_at (packed_plane l.at l.p.columns l.p.rows l.out)) (displaced_by l.d (sample_at (plane_in l.bytes l.p))) i j))) l.initial.weights l.weights
-
-abbrev pub decreases-loop-r : goal.decreases-loop-r
-decreases-loop-r l = l.high - l.r
+invariant-loop-r l = record {
+  sums : Placed l.at l.p.columns l.p.rows (λ i j. gate (between l.b.y l.r j) (gate (between l.b.x l.b.columns i) (term_by l.curve.at (sample_at (packed_plane l.at l.p.columns l.p.rows l.out)) (displaced_by l.d (sample_at (plane_in l.bytes l.p))) i j))) l.initial.sums l.sums;
+  weights : Placed l.at l.p.columns l.p.rows (λ i j. gate (between l.b.y l.r j) (gate (between l.b.x l.b.columns i) (share_by l.curve.at (sample_at (packed_plane l.at l.p.columns l.p.rows l.out)) (displaced_by l.d (sample_at (plane_in l.bytes l.p))) i j))) l.initial.weights l.weights;
+}

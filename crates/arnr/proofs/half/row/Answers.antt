@@ -1,11 +1,6 @@
 -- `arnr::half::row` meets its contract. Assumes nothing.
-use native.Mathlib.Omega.{arith}
-use mathlib.Core.Path.{◌≡◌}
-use Prim.Native.Nat.{◌≤◌, ◌%◌}
-use lib.IntN.{ℤ, pos, nat_abs, ◌-ℤ◌, ◌*ℤ◌}
-use mir.Syntax.{w32}
-use mir.Val.{SFits}
-use mir.Facts.{to_z-of_z}
+use Rattle.std.proofs.Common.{arith, ◌≡◌, ◌≤◌, ◌%◌, ℤ, pos, nat_abs, ◌-ℤ◌, ◌*ℤ◌, w32, SFits}
+use Rattle.std.proofs.Math.Facts.{to_z-of_z}
 use Rattle.laws.specs.Signed.{above, below}
 use Rattle.laws.proofs.Signed.{signs, floor, floor_shift, times, diff, one-zero, self, fits}
 use Rattle.denoiser.specs.Chroma.{half_down, half_row}
@@ -44,24 +39,6 @@ module _ (v : ℤ) (h : (above v ≤ 15) × (below v ≤ 15)) where
 
   four-by : nat_abs (rest *ℤ pos 4) % 4 ≡ 0
   four-by = omega (arith, four_is)
-
-pub overflow_mul-result : goal.overflow_mul-result
-overflow_mul-result c =
-    let v = c.args.v in
-    let f = c.ranges.v in
-    simp (to_z-of_z f, floor_shift v 2, to_z-of_z (half-fits v c.requires)) (twice_fits v c.requires)
-
-pub overflow_sub-result : goal.overflow_sub-result
-overflow_sub-result c =
-    let v = c.args.v in
-    let f = c.ranges.v in
-    simp (to_z-of_z f, floor_shift v 2, to_z-of_z (half-fits v c.requires), to_z-of_z (twice_fits v c.requires)) (rest-fits v c.requires)
-
-pub overflow_mul-result-2 : goal.overflow_mul-result-2
-overflow_mul-result-2 c =
-    let v = c.args.v in
-    let f = c.ranges.v in
-    simp (to_z-of_z f, floor_shift v 2, to_z-of_z (half-fits v c.requires), to_z-of_z (twice_fits v c.requires), to_z-of_z (rest-fits v c.requires)) (four-fits v c.requires)
 
 pub overflow_cast-result : goal.overflow_cast-result
 overflow_cast-result c =

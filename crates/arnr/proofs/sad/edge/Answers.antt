@@ -1,51 +1,27 @@
 -- `arnr::sad::edge` meets its contract. Assumes nothing.
-use mathlib.Core.Path.{◌≡◌}
-use native.Mathlib.Omega.{arith}
-use lib.IntN.{pos, ◌+ℤ◌}
-use mir.Syntax.{w32}
-use mir.Val.{SFits, to_z, of_z}
-use mir.ValLaws.{to_z_pos}
-use mir.Facts.{to_z-of_z}
-use Rattle.laws.proofs.Signed.{signs, range, sum}
+use Rattle.std.proofs.Common.{arith, ◌≡◌, ◌∙◌, ap, ℕ, ◌-◌, ◌<◌, min, ℤ, pos, ◌+ℤ◌, ◌-ℤ◌, w32, to_z, of_z, SFits}
+use Rattle.std.proofs.Math.Facts.{to_z_pos, to_z-of_z}
+use Rattle.std.proofs.Math.IntN.{nat_abs}
+use Rattle.std.proofs.lemmas.Int.{ints, int_max_is, int_min_is}
+use Rattle.std.specs.Int.{int_max, int_min}
+use Rattle.laws.specs.Signed.{above}
+use Rattle.laws.proofs.Signed.{range, sum, diff, self, back}
 use Rattle.arnr.proofs.sad.edge.Goals as goal
 
-pub overflow_add-at : goal.overflow_add-at
-overflow_add-at c =
-    let x_is : to_z w32 c.args.x ≡ pos c.args.x = to_z_pos w32 c.args.x (omega arith) in
-    let d_is : to_z w32 (of_z w32 c.args.d) ≡ c.args.d = to_z-of_z c.ranges.d in
-    let at-fits : SFits w32 (pos c.args.x +ℤ c.args.d) = omega (arith, sum (pos c.args.x) c.args.d, range c.ranges.d) in
-    simp (x_is, d_is) at-fits
+-- z, cut to 0 .. n - 1
+cut : (z : ℤ) (n : ℕ) → 0 < n → nat_abs (int_max (pos 0) (int_min z (pos n -ℤ pos 1))) ≡ min (above z) (n - 1)
+cut z n h =
+    omega (arith, ints, self z, diff (pos n) (pos 1), int_min_is z (pos n -ℤ pos 1), int_max_is (pos 0) (int_min z (pos n -ℤ pos 1)))
 
-pub returns-then-at-lt0 : goal.returns-then-at-lt0
-returns-then-at-lt0 c =
-    let x_is : to_z w32 c.args.x ≡ pos c.args.x = to_z_pos w32 c.args.x (omega arith) in
-    let d_is : to_z w32 (of_z w32 c.args.d) ≡ c.args.d = to_z-of_z c.ranges.d in
-    let at-fits : SFits w32 (pos c.args.x +ℤ c.args.d) = omega (arith, sum (pos c.args.x) c.args.d, range c.ranges.d) in
-    let t = simp (x_is, d_is, to_z-of_z at-fits) at c.if-at-lt0.true in
-    omega (arith, signs, sum (pos c.args.x) c.args.d)
-
-pub overflow_cast-s : goal.overflow_cast-s
-overflow_cast-s c =
-    let x_is : to_z w32 c.args.x ≡ pos c.args.x = to_z_pos w32 c.args.x (omega arith) in
-    let d_is : to_z w32 (of_z w32 c.args.d) ≡ c.args.d = to_z-of_z c.ranges.d in
-    let at-fits : SFits w32 (pos c.args.x +ℤ c.args.d) = omega (arith, sum (pos c.args.x) c.args.d, range c.ranges.d) in
-    let t = simp (x_is, d_is, to_z-of_z at-fits) at c.if-at-lt0.false in
-    simp (x_is, d_is, to_z-of_z at-fits) (omega (arith, signs, sum (pos c.args.x) c.args.d))
-
-pub returns-then-s-n : goal.returns-then-s-n
-returns-then-s-n c =
-    let x_is : to_z w32 c.args.x ≡ pos c.args.x = to_z_pos w32 c.args.x (omega arith) in
-    let d_is : to_z w32 (of_z w32 c.args.d) ≡ c.args.d = to_z-of_z c.ranges.d in
-    let at-fits : SFits w32 (pos c.args.x +ℤ c.args.d) = omega (arith, sum (pos c.args.x) c.args.d, range c.ranges.d) in
-    let t = simp (x_is, d_is, to_z-of_z at-fits) at c.if-at-lt0.false in
-    let u = simp (x_is, d_is, to_z-of_z at-fits) at c.if-s-n.true in
-    simp (x_is, d_is, to_z-of_z at-fits) (omega (arith, signs, sum (pos c.args.x) c.args.d))
-
-pub returns-else-s-n : goal.returns-else-s-n
-returns-else-s-n c =
-    let x_is : to_z w32 c.args.x ≡ pos c.args.x = to_z_pos w32 c.args.x (omega arith) in
-    let d_is : to_z w32 (of_z w32 c.args.d) ≡ c.args.d = to_z-of_z c.ranges.d in
-    let at-fits : SFits w32 (pos c.args.x +ℤ c.args.d) = omega (arith, sum (pos c.args.x) c.args.d, range c.ranges.d) in
-    let t = simp (x_is, d_is, to_z-of_z at-fits) at c.if-at-lt0.false in
-    let u = simp (x_is, d_is, to_z-of_z at-fits) at c.if-s-n.false in
-    omega (arith, signs, sum (pos c.args.x) c.args.d)
+pub returns : goal.returns
+returns c =
+    let x = pos c.args.x in
+    let n = pos c.args.n in
+    let d = c.args.d in
+    let x_is : to_z w32 c.args.x ≡ x = to_z_pos w32 (omega arith) in
+    let n_is : to_z w32 c.args.n ≡ n = to_z_pos w32 (omega arith) in
+    let d_is : to_z w32 (of_z w32 d) ≡ d = to_z-of_z c.ranges.d in
+    let sum-fits : SFits w32 (x +ℤ d) = omega (arith, sum x d, range c.ranges.d) in
+    let last-fits : SFits w32 (n -ℤ pos 1) = omega (arith, diff n (pos 1)) in
+    let e : c.clamp.result ≡ int_max (pos 0) (int_min (x +ℤ d) (n -ℤ pos 1)) = simp (x_is, n_is, d_is, to_z-of_z sum-fits, to_z-of_z last-fits) at c.clamp.ensures.value in
+    simp (back w32 c.clamp.result c.clamp.type_inv) (ap nat_abs e ∙ cut (x +ℤ d) c.args.n c.requires.1)

@@ -1,53 +1,8 @@
 -- `arnr::sad::edge_sad` meets its contract. Assumes nothing.
-use mathlib.Core.Path.{◌≡◌, refl}
-use native.Mathlib.Omega.{arith}
-use Rattle.prediction.proofs.Ceilings.{none_measured, cut_off, row_more, all_measured}
+use Rattle.std.proofs.Common.{rules}
 use Rattle.denoiser.specs.Internal.{luma_row}
 use Rattle.arnr.proofs.sad.edge_sad.Goals as goal
 
-pub loop-r-init : goal.loop-r-init
-loop-r-init c = (omega arith, none_measured _ _)
-
-pub span_sad-row-requires : goal.span_sad-row-requires
-span_sad-row-requires c =
-    record {
-      fits = c.requires.fits;
-      span = record { short = c.requires.lies.slim; wide = c.requires.lies.wide; high = omega (arith, c.requires.lies.high, c.loop-r-test.true) };
-      short = c.requires.short;
-      rows_in_bounds = c.requires.rows_in_bounds;
-    }
-
-pub overflow_cast-result : goal.overflow_cast-result
-overflow_cast-result c =
-    record { fits = omega (arith, c.loop-r-test.true, c.requires.lies.low) }
-
-pub returns-then-left-row : goal.returns-then-left-row
-returns-then-left-row c =
-    let row_is : c.span_sad-row.result
-    ≡ luma_row c.args.centre.now c.args.bytes.now c.args.p
-    c.args.b c.args.d c.loop-r.r = unfold luma_row in c.span_sad-row.ensures.0 in
-    let l = c.loop-r in
-    cut_off _ _ l.r l.left c.span_sad-row.result l.invariant.1 row_is _ _ c.loop-r-test.true c.if-left-row.true refl
-
-pub loop-r-smaller : goal.loop-r-smaller
-loop-r-smaller c = omega (arith, c.loop-r-test.true)
-
-pub loop-r-preserved : goal.loop-r-preserved
-loop-r-preserved c =
-    let row_is : c.span_sad-row.result
-    ≡ luma_row c.args.centre.now c.args.bytes.now c.args.p
-    c.args.b c.args.d c.loop-r.r = unfold luma_row in c.span_sad-row.ensures.0 in
-    let l = c.loop-r in
-    (omega (arith, c.loop-r-test.true), row_more _ _ l.r l.left c.span_sad-row.result l.invariant.1 row_is c.if-left-row.false)
-
-pub overflow_sub-result : goal.overflow_sub-result
-overflow_sub-result c = omega (arith, c.loop-r.invariant.1.room)
-
-pub overflow_cast-result-2 : goal.overflow_cast-result-2
-overflow_cast-result-2 c = record { fits = omega (arith, c.requires.lies.low) }
-
 pub returns : goal.returns
-returns c =
-    let l = c.loop-r in
-    let r-is : l.r ≡ c.args.b.rows = omega (arith, l.invariant.0) in
-    all_measured _ _ _ l.left (rw r-is at l.invariant.1)
+unfolding luma_row
+returns c = c.up_to.ensures _ (λ r v h p. search rules)

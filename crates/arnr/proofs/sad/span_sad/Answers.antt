@@ -1,47 +1,13 @@
-use mathlib.Core.Path.{◌≡◌, ap, ◌∙◌, refl, sym}
-use Prim.Native.Nat.{ℕ, ◌+◌, ◌*◌, ◌≤◌, ◌<◌}
-use native.Mathlib.Nat.{add-sub_cancel_left}
-use lib.ListN.{length, get_or, take, length-take}
-use lib.IntN.{pos}
+use Rattle.std.proofs.Common.{◌≡◌, ap, ◌∙◌, sym, ℕ, ◌+◌, ◌*◌, ◌≤◌, ◌<◌, length, get_or, pos, arith}
 use Rattle.prediction.specs.Plane.{sample_at}
 use Rattle.denoiser.specs.Search.{displaced_by}
 use Rattle.denoiser.specs.Internal.{plane_in, packed_plane}
 use Rattle.denoiser.proofs.Planes.{row_below, luma_at}
+use Rattle.std.proofs.Math.Nat.{add-sub_cancel_left}
 use Rattle.laws.proofs.Slices.{mid_long}
 use Rattle.denoiser.proofs.Place.{apart_is}
 use Rattle.laws.proofs.Sums.{sum_same}
-use native.Mathlib.Omega.{arith}
 use Rattle.arnr.proofs.sad.span_sad.Goals as goal
-
-pub overflow_mul-from : goal.overflow_mul-from
-overflow_mul-from c =
-    let in_centre : c.args.y * c.args.p.columns + c.args.x + c.args.n ≤ length c.args.centre.now = omega (arith, row_below c.args.p.columns c.args.p.rows c.args.x c.args.y c.args.n c.requires.span.wide c.requires.span.high, c.requires.rows_in_bounds) in
-    omega (arith, in_centre)
-
-pub overflow_add-from : goal.overflow_add-from
-overflow_add-from c =
-    let in_centre : c.args.y * c.args.p.columns + c.args.x + c.args.n ≤ length c.args.centre.now = omega (arith, row_below c.args.p.columns c.args.p.rows c.args.x c.args.y c.args.n c.requires.span.wide c.requires.span.high, c.requires.rows_in_bounds) in
-    omega (arith, in_centre)
-
-pub overflow_add-to : goal.overflow_add-to
-overflow_add-to c =
-    let in_centre : c.args.y * c.args.p.columns + c.args.x + c.args.n ≤ length c.args.centre.now = omega (arith, row_below c.args.p.columns c.args.p.rows c.args.x c.args.y c.args.n c.requires.span.wide c.requires.span.high, c.requires.rows_in_bounds) in
-    omega (arith, in_centre)
-
-pub slice_bounds-row_sad-end : goal.slice_bounds-row_sad-end
-slice_bounds-row_sad-end c =
-    let in_centre : c.args.y * c.args.p.columns + c.args.x + c.args.n ≤ length c.args.centre.now = omega (arith, row_below c.args.p.columns c.args.p.rows c.args.x c.args.y c.args.n c.requires.span.wide c.requires.span.high, c.requires.rows_in_bounds) in
-    in_centre
-
-pub slice_bounds-row_sad-end-2 : goal.slice_bounds-row_sad-end-2
-slice_bounds-row_sad-end-2 c = simp length-take (omega (arith, c.displaced_row-row.type_inv))
-
-pub row_sad-requires : goal.row_sad-requires
-row_sad-requires c =
-    let in_centre : c.args.y * c.args.p.columns + c.args.x + c.args.n ≤ length c.args.centre.now = omega (arith, row_below c.args.p.columns c.args.p.rows c.args.x c.args.y c.args.n c.requires.span.wide c.requires.span.high, c.requires.rows_in_bounds) in
-    let n = c.args.n in
-    let row : length (take n c.displaced_row-row.result) ≡ n = simp length-take (omega (arith, c.displaced_row-row.type_inv)) in
-    simp (add-sub_cancel_left, mid_long (c.args.y * c.args.p.columns + c.args.x) n c.args.centre.now in_centre, row) (refl, c.requires.span.short)
 
 pub returns : goal.returns
 returns c =

@@ -1,8 +1,5 @@
 -- `arnr::sad::still_sad` meets its contract. Assumes nothing.
-use mathlib.Core.Path.{◌≡◌, sym, subst}
-use Prim.Native.Nat.{ℕ, ◌+◌, ◌≤◌}
-use native.Mathlib.Omega.{arith}
-use lib.IntN.{pos, ◌+ℤ◌}
+use Rattle.std.proofs.Common.{◌≡◌, sym, subst, ℕ, ◌+◌, ◌≤◌, arith, pos, ◌+ℤ◌}
 use Rattle.laws.proofs.Signed.{sum}
 use Rattle.prediction.specs.Plane.{nearest_in}
 use Rattle.prediction.specs.Ceiled.{CeiledIs}

@@ -1,21 +1,11 @@
-use mathlib.Core.Path.{◌≡◌, ap, ◌∙◌}
-use Prim.Native.Nat.{ℕ, ◌≤◌, ◌/◌, ◌%◌}
-use lib.IntN.{ℤ}
-use mir.Facts.{to_z-of_z}
-use borrow.Author.Tests.{lt-ltb, le-ltb}
+use Rattle.std.proofs.Common.{◌≡◌, ap, ◌∙◌, ℕ, ◌/◌, ◌%◌, ℤ, lt-ltb, le-ltb, arith, w32}
+use Rattle.std.proofs.Math.Facts.{to_z-of_z}
+use Rattle.laws.proofs.Signed.{back}
 use Rattle.denoiser.specs.Search.{neighbour_of}
 use Rattle.laws.specs.Square.{square_place, step_to}
 use Rattle.denoiser.proofs.Planes.{short-fits, same-displacement}
-use native.Mathlib.Omega.{arith}
-use borrow.Author.Rules.{sfits_of}
-use mir.Syntax.{w32}
 use Rattle.arnr.proofs.search.next_to.Goals.{then-k-lt4, else-k-lt4}
 use Rattle.arnr.proofs.search.next_to.Goals as goal
-
-pub step_to-dy-requires : goal.step_to-dy-requires
-step_to-dy-requires c =
-    let place-most : c.if-k-lt4.place ≤ 8 = elim c.if-k-lt4.branch [ then-k-lt4 w ↦ omega arith | else-k-lt4 w ↦ omega arith ] in
-    simp (to_z-of_z (short-fits c.args.d c.requires.2).1) (omega (arith, place-most))
 
 pub returns : goal.returns
 unfolding neighbour_of
@@ -25,9 +15,9 @@ returns c =
     let step = c.args.step in
     let k-place = place_is in
     same-displacement
-    (to_z-of_z {w = w32} (sfits_of c.step_to-dx.type_inv) ∙ c.step_to-dx.ensures
+    (back w32 c.step_to-dx.result c.step_to-dx.type_inv ∙ c.step_to-dx.ensures
     ∙ ap (λ (v : ℤ). step_to v (c.if-k-lt4.place % 3) step) (to_z-of_z (short-fits d c.requires.2).0)
     ∙ ap (λ (t : ℕ). step_to d.dx (t % 3) step) k-place)
-    (to_z-of_z {w = w32} (sfits_of c.step_to-dy.type_inv) ∙ c.step_to-dy.ensures
+    (back w32 c.step_to-dy.result c.step_to-dy.type_inv ∙ c.step_to-dy.ensures
     ∙ ap (λ (v : ℤ). step_to v (c.if-k-lt4.place / 3) step) (to_z-of_z (short-fits d c.requires.2).1)
     ∙ ap (λ (t : ℕ). step_to d.dy (t / 3) step) k-place)

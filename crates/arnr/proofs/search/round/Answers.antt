@@ -1,6 +1,5 @@
 -- `arnr::search::round` meets its contract. The loop's invariant: the best so far is that of the start and the first k neighbours, with its cost. Assumes nothing.
-use mathlib.Core.Path.{◌≡◌, ap, ◌∙◌, refl, sym}
-use Prim.Native.Nat.{ℕ, ◌+◌, ◌-◌}
+use Rattle.std.proofs.Common.{◌≡◌, ap, ◌∙◌, refl, sym, ℕ, ◌+◌, ◌-◌, arith, rules}
 use Rattle.laws.specs.Best.{better_of, best_of}
 use Rattle.laws.proofs.Best.{best_none, best_more}
 use Rattle.denoiser.specs.declared.Displacement.{Displacement}
@@ -8,8 +7,6 @@ use Rattle.denoiser.specs.declared.Motion.{Motion}
 use Rattle.denoiser.specs.Search.{neighbour_of}
 use Rattle.denoiser.specs.Internal.{step_best, Reach, Measured, luma_cost}
 use Rattle.denoiser.proofs.Searches.{neighbour-reach, wider}
-use native.Mathlib.Omega.{arith}
-use borrow.Author.Rules.{rules}
 use Rattle.arnr.proofs.search.round.Goals as goal
 
 module _ (cost : Displacement → ℕ) (from : Displacement) (step : ℕ) where
@@ -24,10 +21,6 @@ module _ (cost : Displacement → ℕ) (from : Displacement) (step : ℕ) where
 
 pub loop-k-init : goal.loop-k-init
 loop-k-init c = (search rules, none _ _ _ _ refl c.requires.sad_value)
-
-pub next_to-requires : goal.next_to-requires
-next_to-requires c =
-    (c.loop-k-test.true, c.requires.step_bound.0, wider (15 - c.args.step) 15 _ (omega arith) c.requires.step_bound.1)
 
 pub try_at-found-requires : goal.try_at-found-requires
 try_at-found-requires c =

@@ -1,13 +1,11 @@
 -- `arnr::search::try_at` meets its contract. Assumes nothing.
-use mathlib.Core.Path.{◌≡◌, ap, ◌∙◌}
-use Prim.Native.Nat.{ℕ, ◌<◌, ◌≤◌, min}
+use Rattle.std.proofs.Common.{◌≡◌, ap, ◌∙◌, ℕ, ◌<◌, ◌≤◌, min, arith}
 use Rattle.laws.specs.Best.{better_of}
 use Rattle.laws.proofs.Best.{cut-less, cut-not}
 use Rattle.denoiser.specs.declared.Displacement.{Displacement}
 use Rattle.denoiser.specs.declared.Motion.{Motion}
 use Rattle.denoiser.specs.Internal.{Measured}
 use Rattle.denoiser.proofs.Ceilings.{luma_read}
-use native.Mathlib.Omega.{arith}
 use Rattle.arnr.proofs.search.try_at.Goals as goal
 
 module _ (cost : Displacement → ℕ) (best : Motion) (d : Displacement) (read : ℕ) (is : read ≡ min (cost d) best.sad) (known : best.sad ≡ cost best.displacement) where
@@ -23,9 +21,6 @@ module _ (cost : Displacement → ℕ) (best : Motion) (d : Displacement) (read 
   worse h =
       let e = cut-not cost best.displacement d read lesser (omega (arith, known)) in
       record { displacement = e; sad = known ∙ ap cost e }
-
-pub block_sad-read-requires : goal.block_sad-read-requires
-block_sad-read-requires c = let s = c.requires in record { fits = s.fits; lies = s.lies; short = s.short; rows_in_bounds = s.rows_in_bounds }
 
 pub returns-then-read-best : goal.returns-then-read-best
 returns-then-read-best c =

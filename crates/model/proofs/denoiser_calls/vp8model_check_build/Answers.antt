@@ -4,4 +4,4 @@ use Rattle.numbers.specs.Answers.{check_numbers}
 use Rattle.model.proofs.denoiser_calls.vp8model_check_build.Goals as goal
 
 pub returns : goal.returns
-returns c = c.check_numbers.ensures ∙ ap check_numbers c.check_build-checked.ensures
+returns c = c.check_numbers.ensures ∙ ap check_numbers c.check_build.ensures

@@ -15,4 +15,4 @@ returns c =
     let made = c.fill_luma_mb_whole_pixel-answer in
     let e = simp (to_z-of_z s.ranges.mv_row, to_z-of_z s.ranges.mv_col) at made.ensures in
     fetch_fills (fetch_lines p s.args.x s.args.y) (macroblock_of (offset_by s.args.x s.args.y v (sample_at p))) s.args.block.now _ made.result e
-    c.fetch_number-number.result c.fetch_number-number.ensures
+    c.fetch_number.result c.fetch_number.ensures

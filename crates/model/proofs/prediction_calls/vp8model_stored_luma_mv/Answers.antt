@@ -7,5 +7,5 @@ use Rattle.model.proofs.prediction_calls.vp8model_stored_luma_mv.Goals as goal
 pub returns : goal.returns
 returns c =
     let fits = c.ranges in
-    let e = simp (to_z-of_z fits.row, to_z-of_z fits.col) at c.stored_luma_mv-stored.ensures in
+    let e = simp (to_z-of_z fits.row, to_z-of_z fits.col) at c.stored_luma_mv.ensures in
     c.vector_numbers.ensures ∙ ap vector_numbers e

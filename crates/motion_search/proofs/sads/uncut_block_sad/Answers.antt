@@ -1,5 +1,5 @@
 -- `uncut_block_sad` meets its contract. Assumes nothing.
-use mathlib.Core.Path.{sym, ◌∙◌}
+use Rattle.std.proofs.Common.{sym, ◌∙◌}
 use Rattle.laws.proofs.Sums.{sum_same}
 use Rattle.search.proofs.Rows.{sad-rows, row-packed}
 use Rattle.motion_search.proofs.sads.uncut_block_sad.Goals as goal

@@ -1,0 +1,3 @@
+-- What several proofs of this crate cite.
+mod Blocks
+mod Edge
