@@ -1,10 +1,6 @@
 -- Frame order does not matter, of calls for C (request 11): a call that returns refusal 0 is accepted, and of two such calls all numbers
 -- and the entries of the lent slices are the same. Assumes nothing.
-use mathlib.Core.Path.{◌≡◌, refl, sym, ap, ◌∙◌}
-use mathlib.Core.Bool.{Bool, true, false, cond}
-use mathlib.Core.List.{List}
-use Prim.Native.Nat.{ℕ}
-use lib.Dec.{eqb}
+use Rattle.std.proofs.Common.{◌≡◌, refl, sym, ap, ◌∙◌, Bool, true, false, cond, List, ℕ, eqb}
 use Rattle.laws.specs.Outcome.{Outcome, refused, accepted}
 use Rattle.laws.proofs.Outcome.{never_refused}
 use Rattle.window.specs.Refusals.{build_lines}

@@ -81,7 +81,7 @@ pub fn fetch_number(answer: Result<(), FetchRefusal>) -> u32
 }
 
 // The number of the refusal of a place.
-fn place_number(refusal: PlaceRefusal) -> u32
+pub fn place_number(refusal: PlaceRefusal) -> u32
     ensures { result ≡ place_number refusal }
 {
     match refusal {
@@ -92,7 +92,7 @@ fn place_number(refusal: PlaceRefusal) -> u32
 }
 
 // The number of the refusal of a SAD or of a refinement.
-fn search_number(refusal: SearchRefusal) -> u32
+pub fn search_number(refusal: SearchRefusal) -> u32
     ensures { result ≡ search_number refusal }
 {
     match refusal {
@@ -166,7 +166,7 @@ pub fn search_numbers(answer: Result<SearchResult, SearchRefusal>) -> Search
 }
 
 // The number of the refusal of a picture.
-fn picture_number(refusal: PictureRefusal) -> u32
+pub fn picture_number(refusal: PictureRefusal) -> u32
     ensures { result ≡ picture_number refusal }
 {
     match refusal {
@@ -195,7 +195,7 @@ pub fn picture_numbers(answer: Result<u32, PictureRefusal>) -> Picture
 }
 
 // The number of the refusal of a picture or of its allowance.
-fn allowance_number(refusal: AllowanceRefusal) -> u32
+pub fn allowance_number(refusal: AllowanceRefusal) -> u32
     ensures { result ≡ allowance_number refusal }
 {
     match refusal {

@@ -1,28 +1,11 @@
 // One record: the call made, its answer and the three lists compared.
 use crate::kind::Kind;
+use numbers::{allowance_number, picture_number};
 use picture_search::allowance::search_picture_luma_within;
 use picture_search::search_picture_luma;
-use search::allowance::{AllowanceRefusal, PictureWork};
-use search::picture::PictureRefusal;
+use search::allowance::PictureWork;
 use std::array;
 use stored::{number, part, vector};
-
-fn picture_number(refusal: PictureRefusal) -> usize {
-    match refusal {
-        PictureRefusal::BadSize => 8,
-        PictureRefusal::ShortPlane => 9,
-        PictureRefusal::ShortSource => 14,
-        PictureRefusal::ShortList => 15,
-        PictureRefusal::BadVersion => 23,
-    }
-}
-
-fn allowance_number(refusal: AllowanceRefusal) -> usize {
-    match refusal {
-        AllowanceRefusal::Picture(refusal) => picture_number(refusal),
-        AllowanceRefusal::LowAllowance => 30,
-    }
-}
 
 // The macroblocks of a record, and the comparisons made for them: the lower and the upper half of its last number.
 pub(crate) fn work_of(record: &[u8; 128]) -> PictureWork {
@@ -90,7 +73,7 @@ fn searched(
     rows: &mut [i16],
     cols: &mut [i16],
     sads: &mut [u32],
-) -> Result<PictureWork, usize> {
+) -> Result<PictureWork, u32> {
     let plane = part(samples, number(record, 2), number(record, 3));
     let stride = number(record, 4);
     let width = number(record, 5);
@@ -152,7 +135,7 @@ pub(crate) fn agrees(kind: Kind, samples: &[u8], entries: &[u8], record: &[u8; 1
         Ok(work) => (0, work),
         Err(refusal) => (refusal, none),
     };
-    refusal == number(record, 1)
+    refusal as usize == number(record, 1)
         && work == work_of(record)
         && holds(rows, entries, new_row, old_row)
         && holds(cols, entries, new_col, old_col)

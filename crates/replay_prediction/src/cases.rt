@@ -1,12 +1,10 @@
 // One record: read, replayed, compared.
 use crate::kind::Kind;
 use bilinear::bilinear_mb_luma;
-use fetch::{FetchRefusal, fetch_luma_mb_halo, fetch_luma_mb_whole_pixel};
+use fetch::{fetch_luma_mb_halo, fetch_luma_mb_whole_pixel};
 use filters::{BadSelector, FilteredMb};
 use prediction::inverse_transform::{abs_diff, clamp255};
-use prediction::motion_comp::{
-    FilterSet, filter_set_for_version, fraction, stored_luma_mv, whole_offset,
-};
+use prediction::motion_comp::{filter_set_for_version, fraction, stored_luma_mv, whole_offset};
 use prediction::motion_vector::Mv;
 use sixtap::{interp, sixtap_mb_luma};
 use std::io::Read;
@@ -63,7 +61,7 @@ fn compared(
         Kind::StoredMv => stored_luma_mv(vector(given)) == vector(answer) && answer < 4294967296,
         Kind::WholeOffset => whole_offset(component) == signed(answer) && answer < 4294967296,
         Kind::Fraction => fraction(component) as usize == answer,
-        Kind::FilterSet => set_number(filter_set_for_version(byte)) == answer,
+        Kind::FilterSet => numbers::filter_number(filter_set_for_version(byte)) as usize == answer,
     };
     Ok(Counts::one(agrees))
 }
@@ -77,27 +75,10 @@ fn selector(n: usize) -> u32 {
     (n % 4294967296) as u32
 }
 
-// Document 01's number of a fetch's answer, 0 where it is accepted.
-fn fetch_number(answer: Result<(), FetchRefusal>) -> usize {
-    match answer {
-        Ok(()) => 0,
-        Err(FetchRefusal::BadSize) => 8,
-        Err(FetchRefusal::ShortPlane) => 9,
-        Err(FetchRefusal::BadOrigin) => 10,
-    }
-}
-
 fn filter_number(answer: Result<(), BadSelector>) -> usize {
     match answer {
         Ok(()) => 0,
         Err(BadSelector) => 13,
-    }
-}
-
-fn set_number(set: FilterSet) -> usize {
-    match set {
-        FilterSet::Sixtap => 0,
-        FilterSet::Bilinear => 1,
     }
 }
 
@@ -140,7 +121,7 @@ fn whole_pixel(input: &mut impl Read, planes: &[u8], header: &[u8; 80]) -> Resul
     fill(input, &mut expected)?;
     let f = fetch_of(planes, header);
     let got = fetch_luma_mb_whole_pixel(f.plane, f.stride, f.width, f.height, f.x, f.y, f.mv);
-    Ok(got.block == expected && fetch_number(got.answer) == number(header, 1))
+    Ok(got.block == expected && numbers::fetch_number(got.answer) as usize == number(header, 1))
 }
 
 fn halo(input: &mut impl Read, planes: &[u8], header: &[u8; 80]) -> Result<bool, Fault> {
@@ -148,7 +129,7 @@ fn halo(input: &mut impl Read, planes: &[u8], header: &[u8; 80]) -> Result<bool,
     fill(input, &mut expected)?;
     let f = fetch_of(planes, header);
     let got = fetch_luma_mb_halo(f.plane, f.stride, f.width, f.height, f.x, f.y, f.mv);
-    Ok(got.block == expected && fetch_number(got.answer) == number(header, 1))
+    Ok(got.block == expected && numbers::fetch_number(got.answer) as usize == number(header, 1))
 }
 
 // A filter of either set.

@@ -4,9 +4,10 @@ use motion_search::motion_search::{
     block_sad_16x16, block_sad_16x16_up_to, half_pixel_refine_luma, mb_luma_sad_at_mv,
     mb_luma_sad_at_whole_mv, quarter_pixel_refine_luma, small_diamond_search_luma,
 };
+use numbers::{place_number, search_number};
 use prediction::ceiling::Ceiled;
 use prediction::motion_vector::Mv;
-use search::{DiamondResult, PlaceRefusal, SearchRefusal, SearchResult};
+use search::{DiamondResult, SearchResult};
 use stored::{number, part, vector};
 
 // What a call finds; what it does not is 0, and the vector the one that is stored as 0. The count is that of the SADs computed, or of
@@ -68,23 +69,6 @@ impl From<DiamondResult> for Found {
     }
 }
 
-fn place_number(refusal: PlaceRefusal) -> usize {
-    match refusal {
-        PlaceRefusal::BadSize => 8,
-        PlaceRefusal::ShortPlane => 9,
-        PlaceRefusal::BadMacroblock => 10,
-    }
-}
-
-fn search_number(refusal: SearchRefusal) -> usize {
-    match refusal {
-        SearchRefusal::Place(refusal) => place_number(refusal),
-        SearchRefusal::OutOfRange => 11,
-        SearchRefusal::OffGrid => 12,
-        SearchRefusal::BadVersion => 23,
-    }
-}
-
 // Where a call measures, the macroblock that it measures, and the version and the limit of those that take one.
 #[derive(Drop)]
 struct Site<'a> {
@@ -124,7 +108,7 @@ fn block(samples: &[u8], start: usize) -> [u8; 256] {
 }
 
 // What the call of a kind finds, or the number of its refusal.
-fn answered(kind: Kind, samples: &[u8], record: &[u8; 128]) -> Result<Found, usize> {
+fn answered(kind: Kind, samples: &[u8], record: &[u8; 128]) -> Result<Found, u32> {
     let s = site_of(samples, record);
     let src = block(samples, number(record, 9));
     let pred = block(samples, number(record, 2));
@@ -179,5 +163,5 @@ pub(crate) fn agrees(kind: Kind, samples: &[u8], record: &[u8; 128]) -> bool {
         count: number(record, 14),
         rounds: rounds(kind, record),
     };
-    refusal == number(record, 1) && found == expected
+    refusal as usize == number(record, 1) && found == expected
 }

@@ -11,7 +11,7 @@ use prediction::motion_vector::Mv;
 use std::io;
 use std::io::Read;
 
-// The number at an index; 0 where the bytes end before it does.
+// The number at an index; 0 where the bytes end before it does, as its clause has it (`number_at`).
 pub fn number(bytes: &[u8], index: usize) -> usize
     ensures { result ≡ number_at bytes.now index }
 {
@@ -56,6 +56,7 @@ pub fn read_full<R: Read>(input: &mut R, buf: &mut [u8]) -> (usize, io::Result<(
     ensures end { OnOk result.1 ((result.0 ≡ length buf.new) ⊎ IsAtEnd (R.remaining input.new)) }
 {
     let mut done = 0;
+    // what counts is what each read gives, which may be less than was asked
     while done < buf.len() {
         match input.read(&mut buf[done..]) {
             Ok(0) => break,

@@ -1,5 +1,5 @@
 -- `vp8model_search_picture_luma_within` meets its contract: the wrapped call's, as numbers. Assumes nothing.
-use mathlib.Core.Path.{refl, ap, ◌∙◌}
+use Rattle.std.proofs.Common.{refl, ap, ◌∙◌}
 use Rattle.numbers.specs.Answers.{allowed_numbers}
 use Rattle.model.proofs.allowance_calls.vp8model_search_picture_luma_within.Goals as goal
 

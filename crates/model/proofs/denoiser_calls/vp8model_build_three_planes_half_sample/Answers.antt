@@ -1,5 +1,5 @@
 -- `model::denoiser_calls::vp8model_build_three_planes_half_sample` meets its contract: the answer's numbers are those of the defined outcome. Assumes nothing.
-use mathlib.Core.Path.{ap, ◌∙◌}
+use Rattle.std.proofs.Common.{ap, ◌∙◌}
 use Rattle.numbers.specs.Answers.{build_numbers}
 use Rattle.model.proofs.denoiser_calls.vp8model_build_three_planes_half_sample.Goals as goal
 

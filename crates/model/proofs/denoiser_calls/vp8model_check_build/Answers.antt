@@ -1,5 +1,5 @@
 -- `vp8model_check_build` meets its contract: the wrapped call's, as numbers. Assumes nothing.
-use mathlib.Core.Path.{ap, ◌∙◌}
+use Rattle.std.proofs.Common.{ap, ◌∙◌}
 use Rattle.numbers.specs.Answers.{check_numbers}
 use Rattle.model.proofs.denoiser_calls.vp8model_check_build.Goals as goal
 

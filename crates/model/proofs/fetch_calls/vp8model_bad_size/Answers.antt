@@ -1,5 +1,5 @@
 -- `vp8model_bad_size` meets its contract: the wrapped call's, as numbers. Assumes nothing.
-use mathlib.Core.Path.{ap, ◌∙◌}
+use Rattle.std.proofs.Common.{ap, ◌∙◌}
 use Rattle.numbers.specs.Answers.{bit}
 use Rattle.model.proofs.fetch_calls.vp8model_bad_size.Goals as goal
 

@@ -1,5 +1,5 @@
 -- `vp8model_fetch_luma_mb_halo` meets its contract: the wrapped call's, as numbers. Assumes nothing.
-use mir.Facts.{to_z-of_z}
+use Rattle.std.proofs.Common.{to_z-of_z}
 use Rattle.prediction.specs.declared.motion_vector.Mv.{Mv}
 use Rattle.prediction.specs.Plane.{luma_plane, sample_at}
 use Rattle.prediction.specs.Prediction.{halo_of, offset_by}

@@ -1,5 +1,5 @@
 -- `vp8model_short_plane` meets its contract: the wrapped call's, as numbers. Assumes nothing.
-use mathlib.Core.Path.{ap, ◌∙◌}
+use Rattle.std.proofs.Common.{ap, ◌∙◌}
 use Rattle.numbers.specs.Answers.{bit}
 use Rattle.model.proofs.fetch_calls.vp8model_short_plane.Goals as goal
 

@@ -1,5 +1,5 @@
 -- `vp8model_interp` meets its contract: the wrapped call's, as numbers. Assumes nothing.
-use mathlib.Core.Path.{ap, ◌∙◌}
+use Rattle.std.proofs.Common.{ap, ◌∙◌}
 use Rattle.numbers.specs.Answers.{sample_numbers}
 use Rattle.model.proofs.prediction_calls.vp8model_interp.Goals as goal
 

@@ -1,6 +1,5 @@
 -- `vp8model_stored_luma_mv` meets its contract: the wrapped call's, as numbers. Assumes nothing.
-use mathlib.Core.Path.{ap, ◌∙◌}
-use mir.Facts.{to_z-of_z}
+use Rattle.std.proofs.Common.{ap, ◌∙◌, to_z-of_z}
 use Rattle.numbers.specs.Answers.{vector_numbers}
 use Rattle.model.proofs.prediction_calls.vp8model_stored_luma_mv.Goals as goal
 

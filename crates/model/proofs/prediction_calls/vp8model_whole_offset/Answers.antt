@@ -1,7 +1,6 @@
 -- `vp8model_whole_offset` meets its contract: the wrapped call's, as numbers. Assumes nothing.
-use mathlib.Core.Path.{◌∙◌}
+use Rattle.std.proofs.Common.{◌∙◌, to_z-of_z}
 use mir.Syntax.{w32}
-use mir.Facts.{to_z-of_z}
 use Rattle.laws.proofs.Signed.{back}
 use Rattle.model.proofs.prediction_calls.vp8model_whole_offset.Goals as goal
 

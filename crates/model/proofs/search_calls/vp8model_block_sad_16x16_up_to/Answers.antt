@@ -1,6 +1,5 @@
 -- `vp8model_block_sad_16x16_up_to` meets its contract. Assumes nothing.
-use mathlib.Core.Path.{◌≡◌, ◌∙◌}
-use Prim.Native.Nat.{ℕ}
+use Rattle.std.proofs.Common.{◌≡◌, ◌∙◌, ℕ}
 use Rattle.prediction.specs.declared.ceiling.Ceiled.{Ceiled}
 use Rattle.numbers.specs.Answers.{ceiled_numbers}
 use Rattle.model.proofs.search_calls.vp8model_block_sad_16x16_up_to.Goals as goal

@@ -1,6 +1,5 @@
 -- `vp8model_mb_luma_sad_at_whole_mv` meets its contract: the wrapped call's, as numbers. Assumes nothing.
-use mathlib.Core.Path.{ap, ◌∙◌}
-use mir.Facts.{to_z-of_z}
+use Rattle.std.proofs.Common.{ap, ◌∙◌, to_z-of_z}
 use Rattle.numbers.specs.Answers.{sad_numbers}
 use Rattle.model.proofs.search_calls.vp8model_mb_luma_sad_at_whole_mv.Goals as goal
 

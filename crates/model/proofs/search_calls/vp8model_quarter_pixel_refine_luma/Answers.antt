@@ -1,6 +1,5 @@
 -- `vp8model_quarter_pixel_refine_luma` meets its contract: the wrapped call's, as numbers. Assumes nothing.
-use mathlib.Core.Path.{ap, ◌∙◌}
-use mir.Facts.{to_z-of_z}
+use Rattle.std.proofs.Common.{ap, ◌∙◌, to_z-of_z}
 use Rattle.numbers.specs.Answers.{search_numbers}
 use Rattle.model.proofs.search_calls.vp8model_quarter_pixel_refine_luma.Goals as goal
 

@@ -1,5 +1,5 @@
 -- `vp8model_search_picture_luma` meets its contract: the wrapped call's, as numbers. Assumes nothing.
-use mathlib.Core.Path.{refl, ap, ◌∙◌}
+use Rattle.std.proofs.Common.{refl, ap, ◌∙◌}
 use Rattle.numbers.specs.Answers.{picture_numbers}
 use Rattle.model.proofs.search_calls.vp8model_search_picture_luma.Goals as goal
 

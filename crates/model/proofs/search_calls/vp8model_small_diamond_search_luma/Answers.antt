@@ -1,6 +1,5 @@
 -- `vp8model_small_diamond_search_luma` meets its contract: the wrapped call's, as numbers. Assumes nothing.
-use mathlib.Core.Path.{ap, ◌∙◌}
-use mir.Facts.{to_z-of_z}
+use Rattle.std.proofs.Common.{ap, ◌∙◌, to_z-of_z}
 use Rattle.numbers.specs.Answers.{diamond_numbers}
 use Rattle.model.proofs.search_calls.vp8model_small_diamond_search_luma.Goals as goal
 
