@@ -67,32 +67,18 @@ fn runs_inside(x: usize, n: usize, d: i32, columns: usize) -> bool
     0 < n && 0 <= first && first as usize + n <= columns
 }
 
-// The first N samples from a place on.
-fn copied<const N: usize>(bytes: &[u8], at: usize) -> [u8; 16]
-    requires { (N ≤ 16) × (at + N ≤ length bytes.now) }
-    ensures { (k : ℕ) → k < N → get_or result k 0 ≡ get_or bytes.now (at + k) 0 }
-{
-    let mut row = [0u8; 16];
-    for k in 0..N {
-        row[k] = bytes[at + k];
-    }
-    row
-}
-
 // The first n samples from a place on. Sixteen or eight, of a known count, become a plain copy; n, calls to clear and to copy.
 fn inner_row(bytes: &[u8], at: usize, n: usize) -> [u8; 16]
     requires { (n ≤ 16) × (at + n ≤ length bytes.now) }
     ensures { (k : ℕ) → k < n → get_or result k 0 ≡ get_or bytes.now (at + k) 0 }
 {
+    let mut row = [0u8; 16];
     match n {
-        16 => copied::<16>(bytes, at),
-        8 => copied::<8>(bytes, at),
-        _ => {
-            let mut row = [0u8; 16];
-            row[..n].copy_from_slice(&bytes[at..at + n]);
-            row
-        }
+        16 => row.copy_from_slice(&bytes[at..at + 16]),
+        8 => row[..8].copy_from_slice(&bytes[at..at + 8]),
+        _ => row[..n].copy_from_slice(&bytes[at..at + n]),
     }
+    row
 }
 
 // A row of n displaced samples, from (x, y) on: copied where they lie in the plane.

@@ -165,11 +165,12 @@ fn is_sample(header: &[u8; 80]) -> bool {
 fn distances(input: &mut impl Read, a: u8) -> Result<Counts, Fault> {
     let mut expected = [0u8; 256];
     fill(input, &mut expected)?;
-    let wrong = (0..=255u8)
-        .zip(&expected)
-        .filter(|(b, distance)| abs_diff(a, *b) != **distance);
+    let mut differ: u64 = 0;
+    for b in 0..256usize {
+        differ = differ.wrapping_add((abs_diff(a, b as u8) != expected[b]) as u64);
+    }
     Ok(Counts {
         compared: 256,
-        differ: wrong.count() as u64,
+        differ,
     })
 }
